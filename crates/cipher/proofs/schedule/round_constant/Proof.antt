@@ -1,0 +1,22 @@
+use Rattle.cipher.proofs.Lists.{getD-tab}
+use Rattle.cipher.specs.Schedule.{xPower}
+use Rattle.cipher.specs.ByteField.{xor, xTimes}
+use Rattle.cipher.specs.Lists.{grow, tab}
+use Prim.Native.Nat.{_-_}
+use borrow.Author.Needs.{needs}
+use Rattle.cipher.proofs.schedule.round_constant.Statement.{statement}
+use Rattle.cipher.proofs.schedule.round_constant.Tie as tie
+use Rattle.cipher.proofs.schedule.round_constant.Reads as reads
+use Rattle.cipher.proofs.schedule.round_constant.Lts as lts
+
+-- src/schedule.rt:19:5
+array-read-result : tie.Need-array-read-result
+array-read-result c = search needs
+
+-- src/schedule.rt:15:1
+returns : tie.Need-returns
+unfolding tab grow xor xTimes xPower
+returns c = getD-tab 11 (λ j. xPower (j - 1)) (c .args .j) 0 (c .pre)
+
+pub round-constant-spec : {M : Type 1} → statement M
+round-constant-spec = tie.close (tie.spec array-read-result returns)

@@ -1,0 +1,19 @@
+-- Lists that are built from the front, as the loops of FIPS 197 fill an array.
+-- Assumes nothing.
+use mathlib.Core.List.{List, [], _∷_, _++_}
+use Prim.Native.Nat.{ℕ, zero, suc}
+use lib.ListN.{getD}
+
+-- n elements, each computed from the list of those before it and from its place
+unfoldable pub grow : {A : Type 0} → (List A → ℕ → A) → ℕ → List A
+grow g zero = []
+grow g (suc n) = grow g n ++ (g (grow g n) n ∷ [])
+
+-- f 0, f 1, .., f (n − 1)
+unfoldable pub tab : {A : Type 0} → ℕ → (ℕ → A) → List A
+unfolding grow
+tab n f = grow (λ before i. f i) n
+
+-- the byte at place i of a list
+abbrev pub at : List ℕ → ℕ → ℕ
+at s i = getD s i 0

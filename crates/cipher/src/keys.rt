@@ -1,0 +1,65 @@
+// Keys, and AES-128 by value for the layers above.
+use super::rounds::cipher;
+use super::schedule::fill;
+ghost use mathlib.Core.Path.{_≡_};
+ghost use mathlib.Core.Bool.{true};
+ghost use lib.ListN.{length};
+ghost use Rattle.cipher.specs.Schedule.{schedule};
+ghost use Rattle.cipher.specs.Cipher.{aes128};
+ghost use Rattle.cipher.specs.Answers.{keyFits};
+
+// A cipher key.
+pub struct Key {
+    pub bytes: [u8; 16],
+}
+
+impl Key {
+    // Serves the layers above: whether a slice is a key.
+    pub fn fits(s: &[u8]) -> bool
+        ensures { λ r. ⌜ r ≡ keyFits (now (s .entry)) ⌝ }
+    {
+        s.len() == 16
+    }
+
+    // Serves the layers above: the key that a slice is. The slice must be one, since its bytes are taken as they stand.
+    pub fn from_bytes(s: &[u8]) -> Key
+        requires { ⌜ keyFits (now s) ≡ true ⌝ }
+        ensures { λ r. ⌜ r .bytes ≡ now (s .entry) ⌝ }
+    {
+        let bytes = sixteen(s);
+        Key { bytes }
+    }
+
+    // Serves the layers above: AES-128 of one block, by value.
+    pub fn encrypt(self, block: [u8; 16]) -> [u8; 16]
+        ensures { λ r. ⌜ r ≡ aes128 (self .bytes) block ⌝ }
+    {
+        let rows = expand(self);
+        cipher(&rows, block)
+    }
+}
+
+// The key schedule of ten rounds: eleven rows of sixteen bytes.
+fn expand(key: Key) -> [[u8; 16]; 11]
+    ensures { λ r. ⌜ r ≡ schedule 4 10 (key .bytes) ⌝ }
+{
+    let bytes = key.bytes;
+    let blank = [0u8; 16];
+    let mut rows = [blank; 11];
+    fill(&bytes, &mut rows);
+    rows
+}
+
+// The bytes of a slice of sixteen.
+pub fn sixteen(s: &[u8]) -> [u8; 16]
+    requires { ⌜ length (now s) ≡ 16 ⌝ }
+    ensures { λ r. ⌜ r ≡ now (s .entry) ⌝ }
+{
+    let mut t = [0u8; 16];
+    let mut i = 0;
+    while i < 16 {
+        t[i] = s[i];
+        i += 1;
+    }
+    t
+}

@@ -1,0 +1,55 @@
+// AES-128 encryption of one block (FIPS 197). This layer knows nothing of the field or of files.
+mod byte_field;
+mod keys;
+mod rounds;
+mod schedule;
+
+pub use keys::Key;
+use keys::sixteen;
+ghost use mathlib.Core.Path.{_≡_};
+ghost use lib.ListN.{length};
+ghost use Rattle.cipher.specs.Answers.{answerNumber, encryptNumber, encryptOutput};
+
+// Why a block call is refused. Document 01's numbers for the causes are in specs/Answers.
+pub enum Cause {
+    // Key or block is not 16 bytes.
+    InputLength,
+    // The output is not 16 bytes.
+    OutputLength,
+}
+
+pub enum Answer {
+    Done,
+    Refused(Cause),
+}
+
+// Encrypts one block. Refused, in this order, where key or block is not 16 bytes and where the output is not; the output then
+// stays as it was. The time depends on no byte but through the substitution table's addresses.
+pub fn encrypt(key: &[u8], block: &[u8], out: &mut [u8]) -> Answer
+    ensures answer { λ r. ⌜ answerNumber r ≡ encryptNumber (now (key .entry)) (now (block .entry)) (now (out .entry)) ⌝ }
+    ensures output { λ _. ⌜ now (out .exit) ≡ encryptOutput (now (key .entry)) (now (block .entry)) (now (out .entry)) ⌝ }
+{
+    if !Key::fits(key) {
+        return Answer::Refused(Cause::InputLength);
+    }
+    if block.len() != 16 {
+        return Answer::Refused(Cause::InputLength);
+    }
+    if out.len() != 16 {
+        return Answer::Refused(Cause::OutputLength);
+    }
+    write(Key::from_bytes(key).encrypt(sixteen(block)), out);
+    Answer::Done
+}
+
+// Writes sixteen bytes to a slice of sixteen.
+fn write(s: [u8; 16], out: &mut [u8])
+    requires { ⌜ length (now out) ≡ 16 ⌝ }
+    ensures { λ _. ⌜ now (out .exit) ≡ s ⌝ }
+{
+    let mut i = 0;
+    while i < 16 {
+        out[i] = s[i];
+        i += 1;
+    }
+}
