@@ -51,20 +51,20 @@ one-or-two P d low high p q =
 
 -- the last word of a row, turned, substituted and added to a constant, byte by byte
 turned-bytes : (prev : List ℕ) (k : ℕ)
-  → addWords (SubWord (RotWord (word prev 3))) (k ∷ 0 ∷ 0 ∷ 0 ∷ [])
-  ≡ xor (at (SubBytes prev) 13) k ∷ at (SubBytes prev) 14 ∷ at (SubBytes prev) 15 ∷ at (SubBytes prev) 12 ∷ []
+    → addWords (SubWord (RotWord (word prev 3))) (k ∷ 0 ∷ 0 ∷ 0 ∷ [])
+    ≡ xor (at (SubBytes prev) 13) k ∷ at (SubBytes prev) 14 ∷ at (SubBytes prev) 15 ∷ at (SubBytes prev) 12 ∷ []
 unfolding addWords SubWord RotWord word SubBytes tab grow
 turned-bytes prev k = simp xor-zero
 
 -- the last word of a row, substituted, byte by byte
 substituted-bytes : (prev : List ℕ)
-  → SubWord (word prev 3) ≡ at (SubBytes prev) 12 ∷ at (SubBytes prev) 13 ∷ at (SubBytes prev) 14 ∷ at (SubBytes prev) 15 ∷ []
+    → SubWord (word prev 3) ≡ at (SubBytes prev) 12 ∷ at (SubBytes prev) 13 ∷ at (SubBytes prev) 14 ∷ at (SubBytes prev) 15 ∷ []
 unfolding SubWord word SubBytes tab grow
 substituted-bytes prev = refl
 
 -- the first word of row r, where d divides r, as the code makes it of the substituted bytes s of the row before
 pub first-turned : (d r k : ℕ) (prev s : List ℕ) → 1 ≤ d → d ≤ 2 → s ≡ SubBytes prev → k ≡ xPower (r / d - 1) → r % d ≡ 0
-  → xor (at s 13) k ∷ at s 14 ∷ at s 15 ∷ at s 12 ∷ [] ≡ temp (4 * d) (4 * r) (word prev 3)
+    → xor (at s 13) k ∷ at s 14 ∷ at s 15 ∷ at s 12 ∷ [] ≡ temp (4 * d) (4 * r) (word prev 3)
 first-turned d r k prev s low high es ek e =
     sym
     (temp-turned (4 * d) (4 * r) (word prev 3) (one-or-two (λ d. r % d ≡ 0 → 4 * r % (4 * d) ≡ 0) d low high (λ h. omega arith) (λ h. omega arith) e)
@@ -72,7 +72,7 @@ first-turned d r k prev s low high es ek e =
 
 -- the same where d doesn't divide r
 pub first-substituted : (d r : ℕ) (prev s : List ℕ) → 1 ≤ d → d ≤ 2 → s ≡ SubBytes prev → r % d ≢ 0
-  → at s 12 ∷ at s 13 ∷ at s 14 ∷ at s 15 ∷ [] ≡ temp (4 * d) (4 * r) (word prev 3)
+    → at s 12 ∷ at s 13 ∷ at s 14 ∷ at s 15 ∷ [] ≡ temp (4 * d) (4 * r) (word prev 3)
 first-substituted d r prev s low high es n =
     let two : d ≡ 2 = one-or-two (λ d. r % d ≢ 0 → d ≡ 2) d low high (λ h. omega arith) (λ h. refl) n in
     rw es
@@ -118,14 +118,16 @@ quad a b c e = a ++ b ++ c ++ e
 
 -- row r by its words
 row-words : (Nk r n : ℕ) (key : List ℕ) → r < n
-  → roundKey (grow (nextWord Nk key) (4 * n)) r ≡ quad (wordOf Nk key (4 * r)) (wordOf Nk key (4 * r + 1)) (wordOf Nk key (4 * r + 2)) (wordOf Nk key (4 * r + 3))
+    → roundKey (grow (nextWord Nk key) (4 * n)) r ≡ quad (wordOf Nk key (4 * r)) (wordOf Nk key (4 * r + 1)) (wordOf Nk key (4 * r + 2)) (wordOf Nk key (4 * r + 3))
 unfolding roundKey quad wordOf
 row-words Nk r n key h =
     let g = nextWord Nk key in
-    rw (getD-grow g (4 * n) (4 * r) [] (omega arith),
+    rw (
+      getD-grow g (4 * n) (4 * r) [] (omega arith),
       getD-grow g (4 * n) (4 * r + 1) [] (omega arith),
       getD-grow g (4 * n) (4 * r + 2) [] (omega arith),
-      getD-grow g (4 * n) (4 * r + 3) [] (omega arith))
+      getD-grow g (4 * n) (4 * r + 3) [] (omega arith),
+    )
 
 -- a row does not depend on how many rows are made
 pub row-stable : (Nk r n m : ℕ) (key : List ℕ) → r < n → r < m → roundKey (grow (nextWord Nk key) (4 * n)) r ≡ roundKey (grow (nextWord Nk key) (4 * m)) r
@@ -138,7 +140,7 @@ last-of-tabs f g h k = refl
 
 -- the next row of a row of four words
 next-of-tabs : (f g h k : ℕ → ℕ) (t a b c e : List ℕ) → a ≡ addWords (tab 4 f) t → b ≡ addWords (tab 4 g) a → c ≡ addWords (tab 4 h) b → e ≡ addWords (tab 4 k) c
-  → nextRow (quad (tab 4 f) (tab 4 g) (tab 4 h) (tab 4 k)) t ≡ quad a b c e
+    → nextRow (quad (tab 4 f) (tab 4 g) (tab 4 h) (tab 4 k)) t ≡ quad a b c e
 next-of-tabs f g h k t a b c e ea eb ec ee = rw (ee, ec, eb, ea) (unfold nextRow word quad tab grow in refl)
 
 -- row r of a key that fills d rows: its own bytes, and then the code's step from the row d before it and the row just before it
@@ -177,10 +179,12 @@ module _ (d : ℕ) (key : List ℕ) (low : 1 ≤ d) (high : d ≤ 2) where
   row-own : (r : ℕ) → r < d → row r ≡ tab 16 (λ i. at key (16 * r + i))
   unfolding row
   row-own r h =
-      rw (word-own r 0 (4 * r) (omega arith) h (omega arith),
+      rw (
+        word-own r 0 (4 * r) (omega arith) h (omega arith),
         word-own r 1 (4 * r + 1) refl h (omega arith),
         word-own r 2 (4 * r + 2) refl h (omega arith),
-        word-own r 3 (4 * r + 3) refl h (omega arith))
+        word-own r 3 (4 * r + 3) refl h (omega arith),
+      )
       (unfold quad tab grow in refl)
 
   row-tabs : (r : ℕ) → row r ≡ quad (tab 4 (at (w (4 * r)))) (tab 4 (at (w (4 * r + 1)))) (tab 4 (at (w (4 * r + 2)))) (tab 4 (at (w (4 * r + 3))))
@@ -218,7 +222,7 @@ lt-or-ge i n = elim (decLt i n) [ yes h ↦ inl h | no h ↦ inr (omega arith) ]
 
 -- one byte more of the next row
 pub next-filled : (back t : List ℕ) {b : List ℕ} {i : ℕ} {s : List ℕ} (v : ℕ) → Filled (λ before j. xor (at back j) (carried t before j)) 16 b i s → i < 16 → v ≡ carried t s i
-  → Filled (λ before j. xor (at back j) (carried t before j)) 16 b (i + 1) (set s i (xor (at back i) v))
+    → Filled (λ before j. xor (at back j) (carried t before j)) 16 b (i + 1) (set s i (xor (at back i) v))
 next-filled back t {i = i} v f h e = filled-next _ f h (ap (xor (at back i)) (e ∙ carried-filled t f (lt-or-ge i 4)))
 
 -- ---- a row of the schedule by the rows before it
@@ -246,6 +250,6 @@ module _ (key : List ℕ) (r : ℕ) (x : Expands key (r + 1)) where
 
   -- a later row
   pub rowOf-next : (s back prev t : List ℕ) → length key / 16 ≤ r → back ≡ rowOf key (r - length key / 16) → prev ≡ rowOf key (r - 1)
-    → t ≡ temp (4 * (length key / 16)) (4 * r) (word prev 3) → s ≡ nextRow back t → s ≡ rowOf key r
+      → t ≡ temp (4 * (length key / 16)) (4 * r) (word prev 3) → s ≡ nextRow back t → s ≡ rowOf key r
   rowOf-next s back prev t h eb ep et es =
       es ∙ rw (et, ep, eb, rowOf-row (r - length key / 16), rowOf-row (r - 1), rowOf-row r) (sym (row-next (length key / 16) key low high r h))

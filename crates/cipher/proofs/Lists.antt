@@ -64,8 +64,8 @@ module _ {A : Type 0} where
         size = f .size;
         within = omega arith;
         is =
-          ap (λ x. set x i v) (f .is)
-            ∙ rw (drop-cons b i v, set-at (grow g i) (getD b i v) (drop (suc i) b) v i (length-grow g i), e, add-one) (grow-next g i _)
+            ap (λ x. set x i v) (f .is)
+            ∙ rw (drop-cons b i v, set-at (grow g i) (getD b i v) (drop (suc i) b) v i (length-grow g i), e, add-one) (grow-next g i _);
       }
 
   -- what a filled place holds

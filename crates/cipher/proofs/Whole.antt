@@ -25,7 +25,7 @@ after-more rows s₀ s t r es et = et ∙ rw (es, add-one) (unfold after in refl
 
 -- the last round, after all those before it
 pub cipher-done : (rows : List (List ℕ)) (input s₀ s a b t : List ℕ) (r last : ℕ) → s₀ ≡ AddRoundKey input (getD rows 0 []) → s ≡ after rows s₀ r → r ≡ last - 1
-  → a ≡ SubBytes s → b ≡ ShiftRows a → t ≡ AddRoundKey b (getD rows last []) → t ≡ Cipher last input rows
+    → a ≡ SubBytes s → b ≡ ShiftRows a → t ≡ AddRoundKey b (getD rows last []) → t ≡ Cipher last input rows
 unfolding Cipher
 cipher-done rows input s₀ s a b t r last e₀ es er ea eb et = et ∙ rw (eb, ea, es, er, e₀)
 
@@ -73,6 +73,6 @@ module _ (key block out : List ℕ) where
   refused-output k b o = (rw (k, eq-eqb _ _ b, ne-eqb _ _ o), rw (k, eq-eqb _ _ b, ne-eqb _ _ o))
 
   pub done : (k b e w : List ℕ) → keyFits key ≡ true → length block ≡ 16 → length out ≡ 16 → k ≡ key → b ≡ block → e ≡ aes128 k b → w ≡ e
-    → (0 ≡ encryptNumber key block out) × (w ≡ encryptOutput key block out)
+      → (0 ≡ encryptNumber key block out) × (w ≡ encryptOutput key block out)
   unfolding encryptOutput encryptNumber
   done k b e w hk hb ho ek eb ee ew = (rw (hk, eq-eqb _ _ hb, eq-eqb _ _ ho), ew ∙ ee ∙ rw (hk, eq-eqb _ _ hb, eq-eqb _ _ ho, ek, eb))

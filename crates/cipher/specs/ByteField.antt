@@ -4,7 +4,6 @@ use Prim.Native.Nat.{ℕ, zero, suc, _*_, _/_, _%_}
 use lib.Bits.{bitXor}
 
 infixl 70 _•_
-
 -- addition: exclusive or (4.1). A definition of its own, so that proofs use its laws and not the digits.
 unfoldable pub xor : ℕ → ℕ → ℕ
 xor a b = bitXor a b

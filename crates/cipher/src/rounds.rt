@@ -1,6 +1,7 @@
 // The transformations of the state, a round, and the cipher over the rows of a schedule (FIPS 197, section 5.1). The state is
 // sixteen bytes, column by column.
-use super::byte_field::{substitute, times_x};
+use super::byte_field::substitute;
+use super::byte_field::times_x;
 ghost use mathlib.Core.Path.{_≡_};
 ghost use Prim.Native.Nat.{_-_, _<_, _≤_};
 ghost use lib.ListN.{length};

@@ -10,7 +10,19 @@ ghost use Rattle.cipher.specs.Schedule.{xPower, temp, schedule};
 ghost use Rattle.cipher.specs.Rows.{word, nextRow, carried, rowOf, Expands};
 
 // The first bytes of Rcon[0] to Rcon[10]; Rcon[0] is not used.
-const RCON: [u8; 11] = [1, 0x01, 0x02, 0x04, 0x08, 0x10, 0x20, 0x40, 0x80, 0x1b, 0x36];
+const RCON: [u8; 11] = [
+    1,
+    0x01,
+    0x02,
+    0x04,
+    0x08,
+    0x10,
+    0x20,
+    0x40,
+    0x80,
+    0x1b,
+    0x36,
+];
 
 fn round_constant(j: usize) -> u8
     requires { ⌜ j < 11 ⌝ }

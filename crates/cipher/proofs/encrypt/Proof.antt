@@ -1,5 +1,5 @@
 use Rattle.cipher.proofs.Whole.{refused-key, refused-block, refused-output, done}
-use Rattle.cipher.specs.Answers.{causeNumber, answerNumber}
+use Rattle.cipher.specs.Answers.{answerNumber}
 use borrow.Author.Tests.{not-true, not-false}
 use mathlib.Core.Bool.{true}
 use mathlib.Core.Path.{_≡_, sym, ap, _∙_}
@@ -20,17 +20,17 @@ fits-requires c κs = search needs
 
 -- src/lib.rt:33:9
 returns : tie.Need-returns
-unfolding answerNumber causeNumber
+unfolding answerNumber
 returns c = refused-key _ _ _ (sym (c .before .fits2 .ensures) ∙ not-true _ (c .if1 .taken))
 
 -- src/lib.rt:36:9
 returns-2 : tie.Need-returns-2
-unfolding answerNumber causeNumber
+unfolding answerNumber
 returns-2 c = refused-block _ _ _ (sym (c .before .before .fits2 .ensures) ∙ not-false _ (c .before .if1 .left)) (c .if2 .taken)
 
 -- src/lib.rt:39:9
 returns-3 : tie.Need-returns-3
-unfolding answerNumber causeNumber
+unfolding answerNumber
 returns-3 c = refused-output _ _ _ (sym (c .before .before .before .fits2 .ensures) ∙ not-false _ (c .before .before .if1 .left)) (c .before .if2 .left) (c .if3 .taken)
 
 -- src/lib.rt:41:11
@@ -55,6 +55,7 @@ same-length c = search needs
 
 -- src/lib.rt:28:1
 returns-4 : tie.Need-returns-4
+unfolding answerNumber
 returns-4 c = let d = c .before .before .before .before .before .before .before in done _ _ _ _ _ _ _ (sym (d .before .before .before .fits2 .ensures) ∙ not-false _ (d .before .before .if1 .left)) (d .before .if2 .left) (d .if3 .left) (c .before .before .before .before .before .before .from-bytes .ensures) (c .before .before .before .before .before .sixteen .ensures) (c .before .before .before .before .encrypt .ensures) (c .before .before .write .ensures)
 
 pub encrypt-spec : {M : Type 1} → statement M
