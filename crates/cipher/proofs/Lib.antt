@@ -2,3 +2,4 @@ pub mod Lists
 pub mod Bytes
 pub mod KeyRows
 pub mod Whole
+pub mod AesLaws

@@ -8,7 +8,7 @@ use Prim.Native.Nat.{ℕ, suc, _+_, _-_, _*_, _/_, _<_, _≤_}
 use native.Mathlib.Numerals.{add-one}
 use native.Mathlib.Omega.{arith}
 use lib.Dec.{eqb}
-use borrow.Author.Tests.{eq-eqb, ne-eqb, eqb-true}
+use borrow.Author.Tests.{eq-eqb, ne-eqb}
 use lib.ListN.{length, getD}
 use lib.Seq.{ext-getD}
 use Rattle.cipher.specs.Lists.{grow, tab, at}
@@ -46,11 +46,6 @@ schedule-128 key e = let q : length key / 4 ≡ 4 = omega arith in schedule-rows
 
 pub expands-128 : (key : List ℕ) → length key ≡ 16 → Expands key 11
 expands-128 key e = omega arith
-
--- a slice that fits a key has sixteen bytes
-pub fits-length : (key : List ℕ) → keyFits key ≡ true → length key ≡ 16
-unfolding keyFits
-fits-length key e = eqb-true _ _ e
 
 -- AES-128 by the cipher over the rows of its schedule
 pub aes-rows : (key block : List ℕ) (rows : List (List ℕ)) → rows ≡ schedule 4 10 key → Cipher (length rows - 1) block rows ≡ aes128 key block

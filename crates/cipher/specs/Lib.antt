@@ -6,3 +6,4 @@ pub mod Schedule
 pub mod Rows
 pub mod Cipher
 pub mod Answers
+pub mod Aes

@@ -1,3 +1,4 @@
+-- `cipher::encrypt` meets its contract. Each return by its own law: two refusals 1, refusal 7, and the work done. Assumes nothing.
 use Rattle.cipher.proofs.Whole.{refused-key, refused-block, refused-output, done}
 use Rattle.cipher.specs.Answers.{answerNumber}
 use borrow.Author.Tests.{not-true, not-false}
@@ -6,54 +7,37 @@ use mathlib.Core.Path.{_≡_, sym, ap, _∙_}
 use borrow.Author.Needs.{needs}
 use Rattle.cipher.proofs.encrypt.Statement.{statement}
 use Rattle.cipher.proofs.encrypt.Tie as tie
-use Rattle.cipher.proofs.encrypt.Reads as reads
-use Rattle.cipher.proofs.encrypt.Lts as lts
-use Rattle.cipher.proofs.keys.Key.encrypt.Reads as encrypt-reads
-use Rattle.cipher.proofs.keys.Key.fits.Reads as fits-reads
-use Rattle.cipher.proofs.keys.Key.from_bytes.Reads as from-bytes-reads
-use Rattle.cipher.proofs.keys.sixteen.Reads as sixteen-reads
-use Rattle.cipher.proofs.write.Reads as write-reads
 
--- src/lib.rt:32:9
 fits-requires : tie.Need-fits-requires
 fits-requires c κs = search needs
 
--- src/lib.rt:33:9
 returns : tie.Need-returns
 unfolding answerNumber
 returns c = refused-key _ _ _ (sym (c .before .fits2 .ensures) ∙ not-true _ (c .if1 .taken))
 
--- src/lib.rt:36:9
 returns-2 : tie.Need-returns-2
 unfolding answerNumber
 returns-2 c = refused-block _ _ _ (sym (c .before .before .fits2 .ensures) ∙ not-false _ (c .before .if1 .left)) (c .if2 .taken)
 
--- src/lib.rt:39:9
 returns-3 : tie.Need-returns-3
 unfolding answerNumber
 returns-3 c = refused-output _ _ _ (sym (c .before .before .before .fits2 .ensures) ∙ not-false _ (c .before .before .if1 .left)) (c .before .if2 .left) (c .if3 .taken)
 
--- src/lib.rt:41:11
 from-bytes-requires : tie.Need-from-bytes-requires
 from-bytes-requires c κs = sym (c .before .before .before .fits2 .ensures) ∙ not-false _ (c .before .before .if1 .left)
 
--- src/lib.rt:41:40
 sixteen-requires : tie.Need-sixteen-requires
 sixteen-requires c κs = search needs
 
--- src/lib.rt:41:11
 encrypt-requires : tie.Need-encrypt-requires
 encrypt-requires c κs = search needs
 
--- src/lib.rt:41:5
 write-requires : tie.Need-write-requires
 write-requires c κs = search needs
 
--- src/lib.rt:28:1
 same-length : tie.Need-same-length
 same-length c = search needs
 
--- src/lib.rt:28:1
 returns-4 : tie.Need-returns-4
 unfolding answerNumber
 returns-4 c = let d = c .before .before .before .before .before .before .before in done _ _ _ _ _ _ _ (sym (d .before .before .before .fits2 .ensures) ∙ not-false _ (d .before .before .if1 .left)) (d .before .if2 .left) (d .if3 .left) (c .before .before .before .before .before .before .from-bytes .ensures) (c .before .before .before .before .before .sixteen .ensures) (c .before .before .before .before .encrypt .ensures) (c .before .before .write .ensures)

@@ -1,25 +1,19 @@
+-- `cipher::keys::expand` meets its contract. The eleven rows that are filled are the schedule of ten rounds. Assumes nothing.
 use Rattle.cipher.proofs.Whole.{expands-128, schedule-128}
 use mathlib.Core.Path.{_∙_}
 use borrow.Author.Needs.{needs}
 use Rattle.cipher.proofs.keys.expand.Statement.{statement}
 use Rattle.cipher.proofs.keys.expand.Tie as tie
-use Rattle.cipher.proofs.keys.expand.Reads as reads
-use Rattle.cipher.proofs.keys.expand.Lts as lts
-use Rattle.cipher.proofs.schedule.fill.Reads as fill-reads
 
--- src/keys.rt:49:10
 slice-aggregate-fill : tie.Need-slice-aggregate-fill
 slice-aggregate-fill c = search needs
 
--- src/keys.rt:49:18
 slice-aggregate-fill-2 : tie.Need-slice-aggregate-fill-2
 slice-aggregate-fill-2 c = search needs
 
--- src/keys.rt:49:5
 fill-requires : tie.Need-fill-requires
 fill-requires c κs = expands-128 _ (search needs)
 
--- src/keys.rt:43:1
 returns : tie.Need-returns
 returns c = c .before .fill .ensures ∙ schedule-128 _ (search needs)
 

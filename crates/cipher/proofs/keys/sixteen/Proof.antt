@@ -1,3 +1,4 @@
+-- `cipher::keys::sixteen` meets its contract. The loop's invariant: the first i bytes are the slice's. Assumes nothing.
 use Rattle.cipher.proofs.Whole.{tab-at}
 use Rattle.cipher.proofs.Lists.{Filled, filled-start, filled-next, filled-done}
 use Rattle.cipher.specs.Lists.{at, tab}
@@ -6,8 +7,6 @@ use mathlib.Core.Path.{refl, _∙_}
 use Prim.Native.Nat.{_-_}
 use Rattle.cipher.proofs.keys.sixteen.Statement.{statement}
 use Rattle.cipher.proofs.keys.sixteen.Tie as tie
-use Rattle.cipher.proofs.keys.sixteen.Reads as reads
-use Rattle.cipher.proofs.keys.sixteen.Lts as lts
 
 abbrev Inv-loop : tie.InvT-loop
 Inv-loop s t₀ i₀ t i = Filled (λ _ j. at s j) 16 t₀ i t
@@ -15,31 +14,24 @@ Inv-loop s t₀ i₀ t i = Filled (λ _ j. at s j) 16 t₀ i t
 abbrev μ-loop : tie.MeasureT-loop
 μ-loop s t₀ i₀ t i = 16 - i
 
--- src/keys.rt:60:5
 loop-holds : tie.Need-loop-holds Inv-loop μ-loop
 loop-holds c = filled-start _ 16 _ refl
 
--- src/keys.rt:61:16
 shared-slice-read-t : tie.Need-shared-slice-read-t Inv-loop μ-loop
 shared-slice-read-t c = omega arith
 
--- src/keys.rt:61:9
 array-write-t : tie.Need-array-write-t Inv-loop μ-loop
 array-write-t c = omega arith
 
--- src/keys.rt:62:9
 add-i : tie.Need-add-i Inv-loop μ-loop
 add-i c = omega arith
 
--- src/keys.rt:60:5
 loop-less : tie.Need-loop-less Inv-loop μ-loop
 loop-less c = omega arith
 
--- src/keys.rt:60:5
 loop-again : tie.Need-loop-again Inv-loop μ-loop
 loop-again c = filled-next _ (c .before .before .loop .inv) (omega arith) refl
 
--- src/keys.rt:54:1
 returns : tie.Need-returns Inv-loop μ-loop
 unfolding tab
 returns c = filled-done (c .before .loop .inv) (omega arith) ∙ tab-at 16 _ (c .before .before .pre)

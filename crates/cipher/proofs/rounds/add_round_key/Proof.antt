@@ -1,3 +1,4 @@
+-- `cipher::rounds::add_round_key` meets its contract. The loop's invariant: the first i bytes have the round key's added. Assumes nothing.
 use Rattle.cipher.proofs.Lists.{Filled, filled-start, filled-next, filled-done}
 use Rattle.cipher.specs.Rounds.{AddRoundKey}
 use Rattle.cipher.specs.ByteField.{xor}
@@ -8,8 +9,6 @@ use mathlib.Core.Path.{refl}
 use Prim.Native.Nat.{_-_}
 use Rattle.cipher.proofs.rounds.add_round_key.Statement.{statement}
 use Rattle.cipher.proofs.rounds.add_round_key.Tie as tie
-use Rattle.cipher.proofs.rounds.add_round_key.Reads as reads
-use Rattle.cipher.proofs.rounds.add_round_key.Lts as lts
 
 abbrev Inv-loop : tie.InvT-loop
 Inv-loop s k t₀ i₀ t i = Filled (λ _ j. xor (at s j) (at k j)) 16 t₀ i t
@@ -17,36 +16,28 @@ Inv-loop s k t₀ i₀ t i = Filled (λ _ j. xor (at s j) (at k j)) 16 t₀ i t
 abbrev μ-loop : tie.MeasureT-loop
 μ-loop s k t₀ i₀ t i = 16 - i
 
--- src/rounds.rt:57:5
 loop-holds : tie.Need-loop-holds Inv-loop μ-loop
 loop-holds c = filled-start _ 16 _ (search needs)
 
--- src/rounds.rt:58:16
 array-read-t : tie.Need-array-read-t Inv-loop μ-loop
 array-read-t c = omega arith
 
--- src/rounds.rt:58:23
 array-read-t-2 : tie.Need-array-read-t-2 Inv-loop μ-loop
 array-read-t-2 c = omega arith
 
--- src/rounds.rt:58:9
 array-write-t : tie.Need-array-write-t Inv-loop μ-loop
 array-write-t c = omega arith
 
--- src/rounds.rt:59:9
 add-i : tie.Need-add-i Inv-loop μ-loop
 add-i c = omega arith
 
--- src/rounds.rt:57:5
 loop-less : tie.Need-loop-less Inv-loop μ-loop
 loop-less c = omega arith
 
--- src/rounds.rt:57:5
 loop-again : tie.Need-loop-again Inv-loop μ-loop
 unfolding xor
 loop-again c = filled-next _ (c .before .loop .inv) (omega arith) refl
 
--- src/rounds.rt:52:1
 returns : tie.Need-returns Inv-loop μ-loop
 unfolding AddRoundKey tab
 returns c = filled-done (c .before .loop .inv) (omega arith)

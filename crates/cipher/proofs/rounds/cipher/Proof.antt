@@ -1,3 +1,4 @@
+-- `cipher::rounds::cipher` meets its contract. The loop's invariant: the state is that after `done` rounds. Assumes nothing.
 use Rattle.cipher.proofs.Whole.{after-more, cipher-done}
 use Rattle.cipher.specs.Cipher.{after, Cipher}
 use lib.ListN.{length}
@@ -7,12 +8,6 @@ use Prim.Native.Nat.{_+_, _-_, _≤_}
 use mathlib.Core.Path.{_≡_, refl, _∙_}
 use Rattle.cipher.proofs.rounds.cipher.Statement.{statement}
 use Rattle.cipher.proofs.rounds.cipher.Tie as tie
-use Rattle.cipher.proofs.rounds.cipher.Reads as reads
-use Rattle.cipher.proofs.rounds.cipher.Lts as lts
-use Rattle.cipher.proofs.rounds.add_round_key.Reads as add-round-key-reads
-use Rattle.cipher.proofs.rounds.round.Reads as round-reads
-use Rattle.cipher.proofs.rounds.shift_rows.Reads as shift-rows-reads
-use Rattle.cipher.proofs.rounds.sub_bytes.Reads as sub-bytes-reads
 
 abbrev Inv-loop : tie.InvT-loop
 Inv-loop rows last s₀ done₀ s done = (s ≡ after rows s₀ done) × (done + 1 ≤ last)
@@ -20,71 +15,54 @@ Inv-loop rows last s₀ done₀ s done = (s ≡ after rows s₀ done) × (done +
 abbrev μ-loop : tie.MeasureT-loop
 μ-loop rows last s₀ done₀ s done = last - done
 
--- src/rounds.rt:85:16
 sub-last : tie.Need-sub-last Inv-loop μ-loop
 sub-last c = omega arith
 
--- src/rounds.rt:86:17
 shared-slice-copy-out-first : tie.Need-shared-slice-copy-out-first Inv-loop μ-loop
 shared-slice-copy-out-first c = omega arith
 
--- src/rounds.rt:87:9
 add-round-key-requires : tie.Need-add-round-key-requires Inv-loop μ-loop
 add-round-key-requires c κs = search needs
 
--- src/rounds.rt:89:5
 loop-holds : tie.Need-loop-holds Inv-loop μ-loop
 loop-holds c = (unfold after in refl, omega arith)
 
--- src/rounds.rt:89:11
 add-loop : tie.Need-add-loop Inv-loop μ-loop
 add-loop c = omega arith
 
--- src/rounds.rt:90:17
 add-r : tie.Need-add-r Inv-loop μ-loop
 add-r c = omega arith
 
--- src/rounds.rt:91:19
 mul-row : tie.Need-mul-row Inv-loop μ-loop
 mul-row c = search needs
 
--- src/rounds.rt:91:19
 shared-slice-copy-out-row : tie.Need-shared-slice-copy-out-row Inv-loop μ-loop
 shared-slice-copy-out-row c = omega arith
 
--- src/rounds.rt:92:13
 round-requires : tie.Need-round-requires Inv-loop μ-loop
 round-requires c κs = search needs
 
--- src/rounds.rt:89:5
 loop-less : tie.Need-loop-less Inv-loop μ-loop
 loop-less c = omega arith
 
--- src/rounds.rt:89:5
 loop-again : tie.Need-loop-again Inv-loop μ-loop
 loop-again c = (after-more _ _ _ _ _ (c .before .before .before .loop .inv .0) (c .round .ensures), omega arith)
 
--- src/rounds.rt:96:15
 mul-row-2 : tie.Need-mul-row-2 Inv-loop μ-loop
 mul-row-2 c = search needs
 
--- src/rounds.rt:96:15
 shared-slice-copy-out-row-2 : tie.Need-shared-slice-copy-out-row-2 Inv-loop μ-loop
 shared-slice-copy-out-row-2 c = omega arith
 
--- src/rounds.rt:97:30
 sub-bytes-requires : tie.Need-sub-bytes-requires Inv-loop μ-loop
 sub-bytes-requires c κs = search needs
 
--- src/rounds.rt:97:19
 shift-rows-requires : tie.Need-shift-rows-requires Inv-loop μ-loop
 shift-rows-requires c κs = search needs
 
--- src/rounds.rt:97:5
 add-round-key-requires-2 : tie.Need-add-round-key-requires-2 Inv-loop μ-loop
 add-round-key-requires-2 c κs = search needs
 
--- src/rounds.rt:81:1
 returns : tie.Need-returns Inv-loop μ-loop
 returns c = cipher-done _ _ _ _ _ _ _ _ _ (c .before .before .before .before .before .before .add-round-key .ensures) (c .before .before .before .before .before .loop .inv .0) (omega arith) (c .before .before .sub-bytes .ensures) (c .before .shift-rows .ensures) (c .add-round-key2 .ensures)
 

@@ -1,3 +1,4 @@
+-- `cipher::rounds::mix_columns` meets its contract. The loop's invariant: the first i bytes are those of the mixed columns. Assumes nothing.
 use Rattle.cipher.proofs.Lists.{Filled, filled-start, filled-next, filled-done}
 use Rattle.cipher.specs.Rounds.{mixedEntry, MixColumns}
 use Rattle.cipher.specs.Lists.{tab}
@@ -6,9 +7,6 @@ use native.Mathlib.Omega.{arith}
 use Prim.Native.Nat.{_-_, _/_, _%_}
 use Rattle.cipher.proofs.rounds.mix_columns.Statement.{statement}
 use Rattle.cipher.proofs.rounds.mix_columns.Tie as tie
-use Rattle.cipher.proofs.rounds.mix_columns.Reads as reads
-use Rattle.cipher.proofs.rounds.mix_columns.Lts as lts
-use Rattle.cipher.proofs.rounds.mixed_entry.Reads as mixed-entry-reads
 
 abbrev Inv-loop : tie.InvT-loop
 Inv-loop s t₀ i₀ t i = Filled (λ _ j. mixedEntry s (j % 4) (j / 4)) 16 t₀ i t
@@ -16,31 +14,24 @@ Inv-loop s t₀ i₀ t i = Filled (λ _ j. mixedEntry s (j % 4) (j / 4)) 16 t₀
 abbrev μ-loop : tie.MeasureT-loop
 μ-loop s t₀ i₀ t i = 16 - i
 
--- src/rounds.rt:41:5
 loop-holds : tie.Need-loop-holds Inv-loop μ-loop
 loop-holds c = filled-start _ 16 _ (search needs)
 
--- src/rounds.rt:42:16
 mixed-entry-requires : tie.Need-mixed-entry-requires Inv-loop μ-loop
 mixed-entry-requires c κs = omega arith
 
--- src/rounds.rt:42:9
 array-write-t : tie.Need-array-write-t Inv-loop μ-loop
 array-write-t c = omega arith
 
--- src/rounds.rt:43:9
 add-i : tie.Need-add-i Inv-loop μ-loop
 add-i c = omega arith
 
--- src/rounds.rt:41:5
 loop-less : tie.Need-loop-less Inv-loop μ-loop
 loop-less c = omega arith
 
--- src/rounds.rt:41:5
 loop-again : tie.Need-loop-again Inv-loop μ-loop
 loop-again c = filled-next _ (c .before .before .loop .inv) (omega arith) (c .mixed-entry .ensures)
 
--- src/rounds.rt:36:1
 returns : tie.Need-returns Inv-loop μ-loop
 unfolding MixColumns tab
 returns c = filled-done (c .before .loop .inv) (omega arith)

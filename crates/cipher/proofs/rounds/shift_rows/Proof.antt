@@ -1,3 +1,4 @@
+-- `cipher::rounds::shift_rows` meets its contract. The loop's invariant: the first i bytes are those of the shifted rows. Assumes nothing.
 use Rattle.cipher.proofs.Lists.{Filled, filled-start, filled-next, filled-done}
 use Rattle.cipher.specs.Rounds.{entry, ShiftRows}
 use Rattle.cipher.specs.Lists.{tab}
@@ -7,8 +8,6 @@ use mathlib.Core.Path.{refl}
 use Prim.Native.Nat.{_-_, _+_, _*_, _/_, _%_}
 use Rattle.cipher.proofs.rounds.shift_rows.Statement.{statement}
 use Rattle.cipher.proofs.rounds.shift_rows.Tie as tie
-use Rattle.cipher.proofs.rounds.shift_rows.Reads as reads
-use Rattle.cipher.proofs.rounds.shift_rows.Lts as lts
 
 abbrev Inv-loop : tie.InvT-loop
 Inv-loop s t₀ i₀ t i = Filled (λ _ j. entry s (j % 4) ((j / 4 + j % 4) % 4)) 16 t₀ i t
@@ -16,43 +15,33 @@ Inv-loop s t₀ i₀ t i = Filled (λ _ j. entry s (j % 4) ((j / 4 + j % 4) % 4)
 abbrev μ-loop : tie.MeasureT-loop
 μ-loop s t₀ i₀ t i = 16 - i
 
--- src/rounds.rt:26:5
 loop-holds : tie.Need-loop-holds Inv-loop μ-loop
 loop-holds c = filled-start _ 16 _ (search needs)
 
--- src/rounds.rt:27:34
 add-from : tie.Need-add-from Inv-loop μ-loop
 add-from c = omega arith
 
--- src/rounds.rt:27:28
 mul-from : tie.Need-mul-from Inv-loop μ-loop
 mul-from c = omega arith
 
--- src/rounds.rt:27:20
 add-from-2 : tie.Need-add-from-2 Inv-loop μ-loop
 add-from-2 c = omega arith
 
--- src/rounds.rt:28:16
 array-read-t : tie.Need-array-read-t Inv-loop μ-loop
 array-read-t c = omega arith
 
--- src/rounds.rt:28:9
 array-write-t : tie.Need-array-write-t Inv-loop μ-loop
 array-write-t c = omega arith
 
--- src/rounds.rt:29:9
 add-i : tie.Need-add-i Inv-loop μ-loop
 add-i c = omega arith
 
--- src/rounds.rt:26:5
 loop-less : tie.Need-loop-less Inv-loop μ-loop
 loop-less c = omega arith
 
--- src/rounds.rt:26:5
 loop-again : tie.Need-loop-again Inv-loop μ-loop
 loop-again c = filled-next _ (c .before .loop .inv) (omega arith) refl
 
--- src/rounds.rt:21:1
 returns : tie.Need-returns Inv-loop μ-loop
 unfolding ShiftRows tab
 returns c = filled-done (c .before .loop .inv) (omega arith)

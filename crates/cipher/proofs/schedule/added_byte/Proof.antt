@@ -1,25 +1,20 @@
+-- `cipher::schedule::added_byte` meets its contract. The two cases of `carried`. Assumes nothing.
 use Rattle.cipher.specs.Rows.{carried}
 use borrow.Author.Tests.{lt-ltb, le-ltb}
 use borrow.Author.Needs.{needs}
 use Rattle.cipher.proofs.schedule.added_byte.Statement.{statement}
 use Rattle.cipher.proofs.schedule.added_byte.Tie as tie
-use Rattle.cipher.proofs.schedule.added_byte.Reads as reads
-use Rattle.cipher.proofs.schedule.added_byte.Lts as lts
 
--- src/schedule.rt:55:16
 array-read-result : tie.Need-array-read-result
 array-read-result c = search needs
 
--- src/schedule.rt:55:9
 returns : tie.Need-returns
 unfolding carried
 returns c = simp (lt-ltb _ _ (c .if1 .taken))
 
--- src/schedule.rt:57:5
 array-read-result-2 : tie.Need-array-read-result-2
 array-read-result-2 c = search needs
 
--- src/schedule.rt:50:1
 returns-2 : tie.Need-returns-2
 unfolding carried
 returns-2 c = simp (le-ltb _ _ (c .if1 .left))

@@ -1,3 +1,4 @@
+-- `cipher::schedule::fill` meets its contract. The loop's invariant: the first r rows are the schedule's. Assumes nothing.
 use Rattle.cipher.proofs.Lists.{Filled, filled-start, filled-next, filled-entry, filled-length, filled-done}
 use Rattle.cipher.specs.Rows.{rowOf}
 use Rattle.cipher.specs.Lists.{tab}
@@ -9,9 +10,6 @@ use mathlib.Core.Path.{refl, ap, _∙_}
 use Prim.Native.Nat.{_-_}
 use Rattle.cipher.proofs.schedule.fill.Statement.{statement}
 use Rattle.cipher.proofs.schedule.fill.Tie as tie
-use Rattle.cipher.proofs.schedule.fill.Reads as reads
-use Rattle.cipher.proofs.schedule.fill.Lts as lts
-use Rattle.cipher.proofs.schedule.row_at.Reads as row-at-reads
 
 abbrev Inv-loop : tie.InvT-loop
 Inv-loop key rows₀ r₀ rows r = Filled (λ _ j. rowOf key j) (length rows₀) rows₀ r rows
@@ -19,39 +17,30 @@ Inv-loop key rows₀ r₀ rows r = Filled (λ _ j. rowOf key j) (length rows₀)
 abbrev μ-loop : tie.MeasureT-loop
 μ-loop key rows₀ r₀ rows r = length rows₀ - r
 
--- src/schedule.rt:96:5
 loop-holds : tie.Need-loop-holds Inv-loop μ-loop
 loop-holds c = filled-start _ _ _ refl
 
--- src/schedule.rt:97:13
 row-at-requires : tie.Need-row-at-requires Inv-loop μ-loop
 row-at-requires c κs = (omega (arith, filled-length (c .before .before .loop .inv)), (omega arith, λ j h. filled-entry j [] (c .before .before .loop .inv) h))
 
--- src/schedule.rt:98:9
 mul-row : tie.Need-mul-row Inv-loop μ-loop
 mul-row c = omega (arith, filled-length (c .before .before .before .loop .inv), c .before .before .before .before .before .pre)
 
--- src/schedule.rt:98:9
 slice-set-from-row : tie.Need-slice-set-from-row Inv-loop μ-loop
 slice-set-from-row c = omega arith
 
--- src/schedule.rt:99:9
 add-r : tie.Need-add-r Inv-loop μ-loop
 add-r c = omega arith
 
--- src/schedule.rt:96:5
 loop-less : tie.Need-loop-less Inv-loop μ-loop
 loop-less c = omega (arith, filled-length (c .before .before .before .loop .inv))
 
--- src/schedule.rt:96:5
 loop-again : tie.Need-loop-again Inv-loop μ-loop
 loop-again c = filled-next _ (c .before .before .before .loop .inv) (omega (arith, filled-length (c .before .before .before .loop .inv))) (c .row-at .ensures)
 
--- src/schedule.rt:91:1
 same-length : tie.Need-same-length Inv-loop μ-loop
 same-length c = filled-length (c .before .loop .inv)
 
--- src/schedule.rt:91:1
 returns : tie.Need-returns Inv-loop μ-loop
 unfolding tab
 returns c = filled-done (c .before .loop .inv) (omega (arith, filled-length (c .before .loop .inv)))

@@ -1,68 +1,51 @@
+-- `cipher::schedule::first_word` meets its contract. The word added to a row's first word is KEYEXPANSION's temp, turned where d divides r and substituted alone where not. Assumes nothing.
 use Rattle.cipher.proofs.KeyRows.{first-turned, first-substituted}
 use Rattle.cipher.specs.ByteField.{xor}
 use mathlib.Core.Path.{refl}
 use borrow.Author.Needs.{needs}
 use Rattle.cipher.proofs.schedule.first_word.Statement.{statement}
 use Rattle.cipher.proofs.schedule.first_word.Tie as tie
-use Rattle.cipher.proofs.schedule.first_word.Reads as reads
-use Rattle.cipher.proofs.schedule.first_word.Lts as lts
-use Rattle.cipher.proofs.rounds.sub_bytes.Reads as sub-bytes-reads
-use Rattle.cipher.proofs.schedule.round_constant.Reads as round-constant-reads
 
--- src/schedule.rt:42:13
 sub-bytes-requires : tie.Need-sub-bytes-requires
 sub-bytes-requires c κs = search needs
 
--- src/schedule.rt:43:8
 rem-if1 : tie.Need-rem-if1
 rem-if1 c = search needs
 
--- src/schedule.rt:44:17
 array-read-t10 : tie.Need-array-read-t10
 array-read-t10 c = search needs
 
--- src/schedule.rt:44:40
 div-round-constant : tie.Need-div-round-constant
 div-round-constant c = search needs
 
--- src/schedule.rt:44:25
 round-constant-requires : tie.Need-round-constant-requires
 round-constant-requires c κs = search needs
 
--- src/schedule.rt:44:48
 array-read-t16 : tie.Need-array-read-t16
 array-read-t16 c = search needs
 
--- src/schedule.rt:44:55
 array-read-t19 : tie.Need-array-read-t19
 array-read-t19 c = search needs
 
--- src/schedule.rt:44:62
 array-read-t22 : tie.Need-array-read-t22
 array-read-t22 c = search needs
 
--- src/schedule.rt:44:9
 returns : tie.Need-returns
 unfolding xor
 returns c = first-turned _ _ _ _ _ (c .before .before .before .pre .0) (c .before .before .before .pre .1) (c .before .before .sub-bytes .ensures) (c .round-constant .ensures) (c .before .if1 .taken)
 
--- src/schedule.rt:46:6
 array-read-t25 : tie.Need-array-read-t25
 array-read-t25 c = search needs
 
--- src/schedule.rt:46:13
 array-read-t28 : tie.Need-array-read-t28
 array-read-t28 c = search needs
 
--- src/schedule.rt:46:20
 array-read-t31 : tie.Need-array-read-t31
 array-read-t31 c = search needs
 
--- src/schedule.rt:46:27
 array-read-t34 : tie.Need-array-read-t34
 array-read-t34 c = search needs
 
--- src/schedule.rt:38:1
 returns-2 : tie.Need-returns-2
 returns-2 c = first-substituted _ _ _ _ (c .before .before .pre .0) (c .before .before .pre .1) (c .before .sub-bytes .ensures) (c .if1 .left)
 

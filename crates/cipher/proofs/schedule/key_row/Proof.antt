@@ -1,3 +1,4 @@
+-- `cipher::schedule::key_row` meets its contract. The loop's invariant: the first i bytes are the key's. Assumes nothing.
 use Rattle.cipher.proofs.Lists.{Filled, filled-start, filled-next, filled-done}
 use Rattle.cipher.specs.Lists.{at, tab}
 use borrow.Author.Needs.{needs}
@@ -6,8 +7,6 @@ use mathlib.Core.Path.{refl}
 use Prim.Native.Nat.{_+_, _*_, _-_}
 use Rattle.cipher.proofs.schedule.key_row.Statement.{statement}
 use Rattle.cipher.proofs.schedule.key_row.Tie as tie
-use Rattle.cipher.proofs.schedule.key_row.Reads as reads
-use Rattle.cipher.proofs.schedule.key_row.Lts as lts
 
 abbrev Inv-loop : tie.InvT-loop
 Inv-loop key r t₀ i₀ t i = Filled (λ _ j. at key (16 * r + j)) 16 t₀ i t
@@ -15,39 +14,30 @@ Inv-loop key r t₀ i₀ t i = Filled (λ _ j. at key (16 * r + j)) 16 t₀ i t
 abbrev μ-loop : tie.MeasureT-loop
 μ-loop key r t₀ i₀ t i = 16 - i
 
--- src/schedule.rt:29:5
 loop-holds : tie.Need-loop-holds Inv-loop μ-loop
 loop-holds c = filled-start _ 16 _ refl
 
--- src/schedule.rt:30:20
 mul-t : tie.Need-mul-t Inv-loop μ-loop
 mul-t c = omega arith
 
--- src/schedule.rt:30:20
 add-t : tie.Need-add-t Inv-loop μ-loop
 add-t c = omega arith
 
--- src/schedule.rt:30:16
 shared-slice-read-t : tie.Need-shared-slice-read-t Inv-loop μ-loop
 shared-slice-read-t c = omega arith
 
--- src/schedule.rt:30:9
 array-write-t : tie.Need-array-write-t Inv-loop μ-loop
 array-write-t c = omega arith
 
--- src/schedule.rt:31:9
 add-i : tie.Need-add-i Inv-loop μ-loop
 add-i c = omega arith
 
--- src/schedule.rt:29:5
 loop-less : tie.Need-loop-less Inv-loop μ-loop
 loop-less c = omega arith
 
--- src/schedule.rt:29:5
 loop-again : tie.Need-loop-again Inv-loop μ-loop
 loop-again c = filled-next _ (c .before .before .loop .inv) (omega arith) refl
 
--- src/schedule.rt:23:1
 returns : tie.Need-returns Inv-loop μ-loop
 unfolding tab
 returns c = filled-done (c .before .loop .inv) (omega arith)

@@ -1,3 +1,4 @@
+-- `cipher::schedule::round_constant` meets its contract. The table's eleven numbers are computed to be the powers of x. Assumes nothing.
 use Rattle.cipher.proofs.Lists.{getD-tab}
 use Rattle.cipher.specs.Schedule.{xPower}
 use Rattle.cipher.specs.ByteField.{xor, xTimes}
@@ -6,14 +7,10 @@ use Prim.Native.Nat.{_-_}
 use borrow.Author.Needs.{needs}
 use Rattle.cipher.proofs.schedule.round_constant.Statement.{statement}
 use Rattle.cipher.proofs.schedule.round_constant.Tie as tie
-use Rattle.cipher.proofs.schedule.round_constant.Reads as reads
-use Rattle.cipher.proofs.schedule.round_constant.Lts as lts
 
--- src/schedule.rt:19:5
 array-read-result : tie.Need-array-read-result
 array-read-result c = search needs
 
--- src/schedule.rt:15:1
 returns : tie.Need-returns
 unfolding tab grow xor xTimes xPower
 returns c = getD-tab 11 (λ j. xPower (j - 1)) (c .args .j) 0 (c .pre)

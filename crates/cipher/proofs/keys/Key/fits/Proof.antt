@@ -1,11 +1,9 @@
+-- `cipher::keys::Key::fits` meets its contract. The test is the definition of a key. Assumes nothing.
 use Rattle.cipher.specs.Answers.{keyFits}
 use mathlib.Core.Path.{refl}
 use Rattle.cipher.proofs.keys.Key.fits.Statement.{statement}
 use Rattle.cipher.proofs.keys.Key.fits.Tie as tie
-use Rattle.cipher.proofs.keys.Key.fits.Reads as reads
-use Rattle.cipher.proofs.keys.Key.fits.Lts as lts
 
--- src/keys.rt:18:5
 returns : tie.Need-returns
 unfolding keyFits
 returns c = refl

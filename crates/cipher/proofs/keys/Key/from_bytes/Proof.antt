@@ -1,16 +1,12 @@
-use Rattle.cipher.proofs.Whole.{fits-length}
+-- `cipher::keys::Key::from_bytes` meets its contract. A slice that is a key has sixteen bytes. Assumes nothing.
+use Rattle.cipher.proofs.AesLaws.{fits-length}
 use borrow.Author.Needs.{needs}
 use Rattle.cipher.proofs.keys.Key.from_bytes.Statement.{statement}
 use Rattle.cipher.proofs.keys.Key.from_bytes.Tie as tie
-use Rattle.cipher.proofs.keys.Key.from_bytes.Reads as reads
-use Rattle.cipher.proofs.keys.Key.from_bytes.Lts as lts
-use Rattle.cipher.proofs.keys.sixteen.Reads as sixteen-reads
 
--- src/keys.rt:29:13
 sixteen-requires : tie.Need-sixteen-requires
 sixteen-requires c κs = fits-length _ (c .before .pre)
 
--- src/keys.rt:25:5
 returns : tie.Need-returns
 returns c = search needs
 
