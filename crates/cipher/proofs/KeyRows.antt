@@ -2,7 +2,7 @@
 -- Assumes nothing.
 use mathlib.Core.Path.{_≡_, refl, sym, ap, ap₂, _∙_, fun-ext}
 use mathlib.Core.Logic.{_⊎_, inl, inr, ⊎-elim, _≢_}
-use mathlib.Core.Bool.{Bool, true, false}
+use mathlib.Core.Bool.{Bool, true, false, cond}
 use mathlib.Core.List.{List, [], _∷_, _++_}
 use Prim.Native.Nat.{ℕ, zero, suc, _+_, _-_, _*_, _/_, _%_, _≤_, _<_}
 use native.Mathlib.Nat.{eq-or-lt-of-le, mul-div-mul-left, zero-lt-suc, div-lt-iff-lt-mul}
@@ -16,7 +16,7 @@ use Rattle.cipher.specs.Lists.{grow, tab, at}
 use Rattle.cipher.specs.ByteField.{xor}
 use Rattle.cipher.specs.Substitution.{sbox}
 use Rattle.cipher.specs.Rounds.{SubBytes}
-use Rattle.cipher.specs.Schedule.{pick, addWords, RotWord, SubWord, xPower, Rcon, temp, nextWord, roundKey}
+use Rattle.cipher.specs.Schedule.{addWords, RotWord, SubWord, xPower, Rcon, temp, nextWord, roundKey}
 use Rattle.cipher.specs.Rows.{word, nextRow, carried, rowOf, Expands}
 use Rattle.cipher.proofs.Lists.{getD-grow, Filled, filled-next, filled-read}
 
@@ -36,13 +36,13 @@ temp-substituted Nk i t h e =
     let n : i % Nk ≢ 0 = omega arith in
     simp (ne-eqb _ _ n, lt-ltb _ _ h, eq-eqb _ _ e)
 
-pick-same : {A : Type 0} (b : Bool) (x : A) → pick b x x ≡ x
-pick-same true x = refl
-pick-same false x = refl
+cond-same : {A : Type 0} (b : Bool) (x : A) → cond b x x ≡ x
+cond-same true x = refl
+cond-same false x = refl
 
 temp-plain : (Nk i : ℕ) (t : List ℕ) → i % Nk ≢ 0 → i % Nk ≢ 4 → temp Nk i t ≡ t
 unfolding temp
-temp-plain Nk i t n m = simp (ne-eqb _ _ n, ne-eqb _ _ m, pick-same)
+temp-plain Nk i t n m = simp (ne-eqb _ _ n, ne-eqb _ _ m, cond-same)
 
 -- a key of 16 or 32 bytes fills one or two rows
 one-or-two : (P : ℕ → Type 0) (d : ℕ) → 1 ≤ d → d ≤ 2 → P 1 → P 2 → P d
@@ -90,7 +90,9 @@ word-early : (Nk i : ℕ) (key : List ℕ) → i < Nk → wordOf Nk key i ≡ ta
 unfolding wordOf nextWord
 word-early Nk i key h = simp (lt-ltb _ _ h)
 
-next-later : (Nk i : ℕ) (key : List ℕ) (w : List (List ℕ)) → Nk ≤ i → nextWord Nk key w i ≡ addWords (getD w (i - Nk) []) (temp Nk i (getD w (i - 1) []))
+next-later :
+    (Nk i : ℕ) (key : List ℕ) (w : List (List ℕ)) → Nk ≤ i
+    → nextWord Nk key w i ≡ addWords (getD w (i - Nk) []) (temp Nk i (getD w (i - 1) []))
 unfolding nextWord
 next-later Nk i key w h = simp (le-ltb _ _ h)
 
@@ -101,14 +103,14 @@ word-later Nk i key p h =
     ∙ ap₂ (λ a b. addWords a (temp Nk i b)) (getD-grow (nextWord Nk key) i (i - Nk) [] (omega arith)) (getD-grow (nextWord Nk key) i (i - 1) [] (omega arith))
 
 -- a word has four bytes
-picked-full : (b : Bool) (f g : ℕ → ℕ) → tab 4 (at (pick b (tab 4 f) (tab 4 g))) ≡ pick b (tab 4 f) (tab 4 g)
+chosen-full : (b : Bool) (f g : ℕ → ℕ) → tab 4 (at (cond b (tab 4 f) (tab 4 g))) ≡ cond b (tab 4 f) (tab 4 g)
 unfolding tab grow
-picked-full true f g = refl
-picked-full false f g = refl
+chosen-full true f g = refl
+chosen-full false f g = refl
 
 word-full : (Nk i : ℕ) (key : List ℕ) → tab 4 (at (wordOf Nk key i)) ≡ wordOf Nk key i
 unfolding wordOf nextWord addWords
-word-full Nk i key = picked-full (ltb i Nk) _ _
+word-full Nk i key = chosen-full (ltb i Nk) _ _
 
 -- ---- four words to a row
 
@@ -130,7 +132,8 @@ row-words Nk r n key h =
     )
 
 -- a row does not depend on how many rows are made
-pub row-stable : (Nk r n m : ℕ) (key : List ℕ) → r < n → r < m → roundKey (grow (nextWord Nk key) (4 * n)) r ≡ roundKey (grow (nextWord Nk key) (4 * m)) r
+pub row-stable :
+    (Nk r n m : ℕ) (key : List ℕ) → r < n → r < m → roundKey (grow (nextWord Nk key) (4 * n)) r ≡ roundKey (grow (nextWord Nk key) (4 * m)) r
 row-stable Nk r n m key h k = row-words Nk r n key h ∙ sym (row-words Nk r m key k)
 
 -- the last word of a row of four words
@@ -139,7 +142,9 @@ unfolding word quad tab grow
 last-of-tabs f g h k = refl
 
 -- the next row of a row of four words
-next-of-tabs : (f g h k : ℕ → ℕ) (t a b c e : List ℕ) → a ≡ addWords (tab 4 f) t → b ≡ addWords (tab 4 g) a → c ≡ addWords (tab 4 h) b → e ≡ addWords (tab 4 k) c
+next-of-tabs :
+    (f g h k : ℕ → ℕ) (t a b c e : List ℕ) → a ≡ addWords (tab 4 f) t → b ≡ addWords (tab 4 g) a → c ≡ addWords (tab 4 h) b
+    → e ≡ addWords (tab 4 k) c
     → nextRow (quad (tab 4 f) (tab 4 g) (tab 4 h) (tab 4 k)) t ≡ quad a b c e
 next-of-tabs f g h k t a b c e ea eb ec ee = rw (ee, ec, eb, ea) (unfold nextRow word quad tab grow in refl)
 
@@ -212,7 +217,9 @@ unfolding nextRow word addWords carried tab grow
 next-grown back t = refl
 
 -- what is added to byte i is read from the bytes that are filled already
-carried-filled : {g : List ℕ → ℕ → ℕ} {n : ℕ} {b : List ℕ} {i : ℕ} {s : List ℕ} (t : List ℕ) → Filled g n b i s → (i < 4) ⊎ (4 ≤ i) → carried t s i ≡ carried t (grow g i) i
+carried-filled :
+    {g : List ℕ → ℕ → ℕ} {n : ℕ} {b : List ℕ} {i : ℕ} {s : List ℕ} (t : List ℕ) → Filled g n b i s → (i < 4) ⊎ (4 ≤ i)
+    → carried t s i ≡ carried t (grow g i) i
 unfolding carried
 carried-filled t f (inl h) = simp (lt-ltb _ _ h)
 carried-filled {i = i} t f (inr h) = simp (le-ltb _ _ h) (filled-read (i - 4) 0 f (omega arith))
@@ -221,7 +228,9 @@ lt-or-ge : (i n : ℕ) → (i < n) ⊎ (n ≤ i)
 lt-or-ge i n = elim (decLt i n) [ yes h ↦ inl h | no h ↦ inr (omega arith) ]
 
 -- one byte more of the next row
-pub next-filled : (back t : List ℕ) {b : List ℕ} {i : ℕ} {s : List ℕ} (v : ℕ) → Filled (λ before j. xor (at back j) (carried t before j)) 16 b i s → i < 16 → v ≡ carried t s i
+pub next-filled :
+    (back t : List ℕ) {b : List ℕ} {i : ℕ} {s : List ℕ} (v : ℕ) → Filled (λ before j. xor (at back j) (carried t before j)) 16 b i s → i < 16
+    → v ≡ carried t s i
     → Filled (λ before j. xor (at back j) (carried t before j)) 16 b (i + 1) (set s i (xor (at back i) v))
 next-filled back t {i = i} v f h e = filled-next _ f h (ap (xor (at back i)) (e ∙ carried-filled t f (lt-or-ge i 4)))
 

@@ -18,7 +18,9 @@ module _ {A : Type 0} where
   length-grow g zero = refl
   length-grow g (suc n) = simp (length-append, length-grow g n) (add-one n)
 
-  getD-more : (g : List A → ℕ → A) (n i : ℕ) (d : A) → (i < n → getD (grow g n) i d ≡ g (grow g i) i) → (i ≡ n) ⊎ (i < n) → getD (grow g (suc n)) i d ≡ g (grow g i) i
+  getD-more :
+      (g : List A → ℕ → A) (n i : ℕ) (d : A) → (i < n → getD (grow g n) i d ≡ g (grow g i) i) → (i ≡ n) ⊎ (i < n)
+      → getD (grow g (suc n)) i d ≡ g (grow g i) i
   unfolding grow
   getD-more g n i d ih (inl e) = rw e (getD-at (grow g n) _ [] d n (length-grow g n))
   getD-more g n i d ih (inr l) = List·getD-append (grow g n) _ d i (rw length-grow l) ∙ ih l
@@ -57,7 +59,9 @@ module _ {A : Type 0} where
   grow-next g i r = sym (append-snoc (grow g i) (g (grow g i) i) r)
 
   -- one store more
-  pub filled-next : {g : List A → ℕ → A} {n : ℕ} {b : List A} {i : ℕ} {t : List A} (v : A) → Filled g n b i t → i < n → v ≡ g (grow g i) i → Filled g n b (i + 1) (set t i v)
+  pub filled-next :
+      {g : List A → ℕ → A} {n : ℕ} {b : List A} {i : ℕ} {t : List A} (v : A) → Filled g n b i t → i < n → v ≡ g (grow g i) i
+      → Filled g n b (i + 1) (set t i v)
   filled-next {g} {n} {b} {i} {t} v f h e =
       let l : i < length b = omega arith in
       record {
@@ -69,11 +73,14 @@ module _ {A : Type 0} where
       }
 
   -- what a filled place holds
-  pub filled-read : {g : List A → ℕ → A} {n : ℕ} {b : List A} {i : ℕ} {t : List A} (j : ℕ) (d : A) → Filled g n b i t → j < i → getD t j d ≡ getD (grow g i) j d
+  pub filled-read :
+      {g : List A → ℕ → A} {n : ℕ} {b : List A} {i : ℕ} {t : List A} (j : ℕ) (d : A) → Filled g n b i t → j < i
+      → getD t j d ≡ getD (grow g i) j d
   filled-read {g} {n} {b} {i} j d f h = rw (f .is) (List·getD-append (grow g i) (drop i b) d j (rw length-grow h))
 
   -- the same where no place depends on those before it
-  pub filled-entry : {f : ℕ → A} {n : ℕ} {b : List A} {i : ℕ} {t : List A} (j : ℕ) (d : A) → Filled (λ before k. f k) n b i t → j < i → getD t j d ≡ f j
+  pub filled-entry :
+      {f : ℕ → A} {n : ℕ} {b : List A} {i : ℕ} {t : List A} (j : ℕ) (d : A) → Filled (λ before k. f k) n b i t → j < i → getD t j d ≡ f j
   filled-entry {f} {i = i} j d x h = filled-read j d x h ∙ getD-grow (λ before k. f k) i j d h
 
   pub filled-length : {g : List A → ℕ → A} {n : ℕ} {b : List A} {i : ℕ} {t : List A} → Filled g n b i t → length t ≡ length b

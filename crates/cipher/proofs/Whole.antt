@@ -20,11 +20,14 @@ use Rattle.cipher.specs.Answers.{keyFits, encryptNumber, encryptOutput}
 use Rattle.cipher.proofs.Lists.{length-tab, getD-tab, tab-ext}
 use Rattle.cipher.proofs.KeyRows.{row-stable}
 
-pub after-more : (rows : List (List ℕ)) (s₀ s t : List ℕ) (r : ℕ) → s ≡ after rows s₀ r → t ≡ Round s (getD rows (r + 1) []) → t ≡ after rows s₀ (r + 1)
+pub after-more :
+    (rows : List (List ℕ)) (s₀ s t : List ℕ) (r : ℕ) → s ≡ after rows s₀ r → t ≡ Round s (getD rows (r + 1) []) → t ≡ after rows s₀ (r + 1)
 after-more rows s₀ s t r es et = et ∙ rw (es, add-one) (unfold after in refl)
 
 -- the last round, after all those before it
-pub cipher-done : (rows : List (List ℕ)) (input s₀ s a b t : List ℕ) (r last : ℕ) → s₀ ≡ AddRoundKey input (getD rows 0 []) → s ≡ after rows s₀ r → r ≡ last - 1
+pub cipher-done :
+    (rows : List (List ℕ)) (input s₀ s a b t : List ℕ) (r last : ℕ) → s₀ ≡ AddRoundKey input (getD rows 0 []) → s ≡ after rows s₀ r
+    → r ≡ last - 1
     → a ≡ SubBytes s → b ≡ ShiftRows a → t ≡ AddRoundKey b (getD rows last []) → t ≡ Cipher last input rows
 unfolding Cipher
 cipher-done rows input s₀ s a b t r last e₀ es er ea eb et = et ∙ rw (eb, ea, es, er, e₀)
@@ -63,7 +66,8 @@ module _ (key block out : List ℕ) where
   unfolding encryptOutput encryptNumber
   refused-block k b = (rw (k, ne-eqb _ _ b), rw (k, ne-eqb _ _ b))
 
-  pub refused-output : keyFits key ≡ true → length block ≡ 16 → length out ≢ 16 → (7 ≡ encryptNumber key block out) × (out ≡ encryptOutput key block out)
+  pub refused-output :
+      keyFits key ≡ true → length block ≡ 16 → length out ≢ 16 → (7 ≡ encryptNumber key block out) × (out ≡ encryptOutput key block out)
   unfolding encryptOutput encryptNumber
   refused-output k b o = (rw (k, eq-eqb _ _ b, ne-eqb _ _ o), rw (k, eq-eqb _ _ b, ne-eqb _ _ o))
 

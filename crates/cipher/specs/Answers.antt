@@ -1,6 +1,6 @@
 -- The block call's answer and output for all inputs (document 01, "Causes and their numbers").
 -- Assumes nothing.
-use mathlib.Core.Bool.{Bool}
+use mathlib.Core.Bool.{Bool, cond}
 use mathlib.Core.List.{List}
 use Prim.Native.Nat.{ℕ}
 use lib.Dec.{eqb}
@@ -9,7 +9,6 @@ use Rattle.cipher.specs.declared.Answer.{Answer}
 use Rattle.cipher.specs.declared.Answer.the-variants.{Done, Refused}
 use Rattle.cipher.specs.declared.Cause.{Cause}
 use Rattle.cipher.specs.declared.Cause.the-variants.{InputLength, OutputLength}
-use Rattle.cipher.specs.Schedule.{pick}
 use Rattle.cipher.specs.Cipher.{aes128}
 
 -- document 01's number of a cause
@@ -29,8 +28,8 @@ keyFits key = eqb (length key) 16
 
 -- the block call's number: 1 where key or block is not 16 bytes, then 7 where the output is not
 unfoldable pub encryptNumber : List ℕ → List ℕ → List ℕ → ℕ
-encryptNumber key block out = pick (keyFits key) (pick (eqb (length block) 16) (pick (eqb (length out) 16) 0 7) 1) 1
+encryptNumber key block out = cond (keyFits key) (cond (eqb (length block) 16) (cond (eqb (length out) 16) 0 7) 1) 1
 
 -- what the block call leaves in the output: AES of the block, or on a refusal what it held before
 unfoldable pub encryptOutput : List ℕ → List ℕ → List ℕ → List ℕ
-encryptOutput key block out = pick (eqb (encryptNumber key block out) 0) (aes128 key block) out
+encryptOutput key block out = cond (eqb (encryptNumber key block out) 0) (aes128 key block) out

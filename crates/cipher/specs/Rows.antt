@@ -1,15 +1,14 @@
 -- How a row of the schedule follows from earlier rows: the steps of the code, which KEYEXPANSION's words are shown to take (FIPS 197, 5.2).
 -- d is the number of rows that the key itself fills, Nk / 4.
 -- Assumes nothing.
-use mathlib.Core.List.{List, []}
-use Prim.Native.Nat.{ℕ, _+_, _-_, _*_, _/_, _%_, _≤_, _<_}
-use mathlib.Core.List.{_++_}
+use mathlib.Core.Bool.{cond}
+use mathlib.Core.List.{List, _++_}
+use Prim.Native.Nat.{ℕ, _+_, _-_, _*_, _/_, _%_, _≤_}
 use mathlib.Core.Path.{_≡_}
 use lib.Dec.{ltb}
-use lib.ListN.{length, getD}
+use lib.ListN.{length}
 use Rattle.cipher.specs.Lists.{grow, tab, at}
-use Rattle.cipher.specs.ByteField.{xor}
-use Rattle.cipher.specs.Schedule.{pick, addWords, nextWord, roundKey, temp}
+use Rattle.cipher.specs.Schedule.{addWords, nextWord, roundKey}
 
 -- word c of a row
 unfoldable pub word : List ℕ → ℕ → List ℕ
@@ -25,7 +24,7 @@ nextRow back t =
 
 -- what is added to byte i of the row d before, from the temp t and the bytes of the new row that stand before it
 unfoldable pub carried : List ℕ → List ℕ → ℕ → ℕ
-carried t before i = pick (ltb i 4) (at t i) (at before (i - 4))
+carried t before i = cond (ltb i 4) (at t i) (at before (i - 4))
 
 -- row r of the schedule of a key, by KEYEXPANSION with Nk the key's number of words; the words past row r don't matter
 unfoldable pub rowOf : List ℕ → ℕ → List ℕ

@@ -1,6 +1,6 @@
 -- KEYEXPANSION (FIPS 197, section 5.2), for any number Nk of key words and Nr of rounds. A word is a list of four bytes.
 -- Assumes nothing.
-use mathlib.Core.Bool.{Bool, true, false}
+use mathlib.Core.Bool.{cond}
 use mathlib.Core.List.{List, [], _∷_, _++_}
 use Prim.Native.Nat.{ℕ, zero, suc, _+_, _-_, _*_, _/_, _%_}
 use lib.Dec.{ltb, eqb}
@@ -8,11 +8,6 @@ use lib.ListN.{getD}
 use Rattle.cipher.specs.Lists.{grow, tab, at}
 use Rattle.cipher.specs.ByteField.{xor, xTimes}
 use Rattle.cipher.specs.Substitution.{sbox}
-
--- the first where the test holds, else the second
-abbrev pub pick : {A : Type 0} → Bool → A → A → A
-pick true a b = a
-pick false a b = b
 
 -- two words added (5.2)
 unfoldable pub addWords : List ℕ → List ℕ → List ℕ
@@ -38,12 +33,12 @@ Rcon j = xPower (j - 1) ∷ 0 ∷ 0 ∷ 0 ∷ []
 -- temp for word i, from word i − 1 (5.2, Algorithm 2)
 unfoldable pub temp : ℕ → ℕ → List ℕ → List ℕ
 temp Nk i t =
-    pick (eqb (i % Nk) 0) (addWords (SubWord (RotWord t)) (Rcon (i / Nk)))
-    (pick (ltb 6 Nk) (pick (eqb (i % Nk) 4) (SubWord t) t) t)
+    cond (eqb (i % Nk) 0) (addWords (SubWord (RotWord t)) (Rcon (i / Nk)))
+    (cond (ltb 6 Nk) (cond (eqb (i % Nk) 4) (SubWord t) t) t)
 
 -- w[i] from the words before it (5.2, Algorithm 2): a word of the key, or w[i − Nk] + temp
 unfoldable pub nextWord : ℕ → List ℕ → List (List ℕ) → ℕ → List ℕ
-nextWord Nk key w i = pick (ltb i Nk) (tab 4 (λ j. at key (4 * i + j))) (addWords (getD w (i - Nk) []) (temp Nk i (getD w (i - 1) [])))
+nextWord Nk key w i = cond (ltb i Nk) (tab 4 (λ j. at key (4 * i + j))) (addWords (getD w (i - Nk) []) (temp Nk i (getD w (i - 1) [])))
 
 -- w[0 .. 4·Nr + 3] (5.2, Algorithm 2)
 unfoldable pub KeyExpansion : ℕ → ℕ → List ℕ → List (List ℕ)

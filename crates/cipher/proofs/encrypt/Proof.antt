@@ -40,7 +40,15 @@ same-length c = search needs
 
 returns-4 : tie.Need-returns-4
 unfolding answerNumber
-returns-4 c = let d = c .before .before .before .before .before .before .before in done _ _ _ _ _ _ _ (sym (d .before .before .before .fits2 .ensures) ∙ not-false _ (d .before .before .if1 .left)) (d .before .if2 .left) (d .if3 .left) (c .before .before .before .before .before .before .from-bytes .ensures) (c .before .before .before .before .before .sixteen .ensures) (c .before .before .before .before .encrypt .ensures) (c .before .before .write .ensures)
+returns-4 c =
+    let written = c .before .before in
+    let encrypted = written .before .before in
+    let block = encrypted .before in
+    let key = block .before in
+    let tests = key .before in
+    done _ _ _ _ _ _ _ (sym (tests .before .before .before .fits2 .ensures) ∙ not-false _ (tests .before .before .if1 .left))
+    (tests .before .if2 .left) (tests .if3 .left) (key .from-bytes .ensures) (block .sixteen .ensures) (encrypted .encrypt .ensures)
+    (written .write .ensures)
 
 pub encrypt-spec : {M : Type 1} → statement M
 encrypt-spec =

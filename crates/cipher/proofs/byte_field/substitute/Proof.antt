@@ -1,4 +1,5 @@
--- `cipher::byte_field::substitute` meets its contract. The table is the rule's: its 256 numbers are computed to be those of `sbox`, which gives the rule at every entry. Assumes nothing.
+-- `cipher::byte_field::substitute` meets its contract. One computed test: the table's 256 numbers are those of `sbox`. The law of a table's
+-- entries turns it into the rule at every entry. Assumes nothing.
 use Rattle.cipher.proofs.Lists.{getD-tab}
 use Rattle.cipher.specs.Substitution.{bit, fromBits, affineBit, affine, sbox}
 use Rattle.cipher.specs.ByteField.{xor, xTimes, productOf, _•_, square, evenPower, inverse}

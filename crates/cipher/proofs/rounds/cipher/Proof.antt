@@ -64,7 +64,10 @@ add-round-key-requires-2 : tie.Need-add-round-key-requires-2 Inv-loop μ-loop
 add-round-key-requires-2 c κs = search needs
 
 returns : tie.Need-returns Inv-loop μ-loop
-returns c = cipher-done _ _ _ _ _ _ _ _ _ (c .before .before .before .before .before .before .add-round-key .ensures) (c .before .before .before .before .before .loop .inv .0) (omega arith) (c .before .before .sub-bytes .ensures) (c .before .shift-rows .ensures) (c .add-round-key2 .ensures)
+returns c =
+    let loop = c .before .before .before .before .before in
+    cipher-done _ _ _ _ _ _ _ _ _ (loop .before .add-round-key .ensures) (loop .loop .inv .0) (omega arith) (c .before .before .sub-bytes .ensures)
+    (c .before .shift-rows .ensures) (c .add-round-key2 .ensures)
 
 pub cipher-spec : {M : Type 1} → statement M
 cipher-spec =

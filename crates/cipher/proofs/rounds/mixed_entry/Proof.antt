@@ -64,7 +64,9 @@ array-read-result-2 c = search needs
 
 returns : tie.Need-returns
 unfolding mixedEntry xor
-returns c = let fits : (i : ℕ) → Fits w8 (getD (c .before .before .args .t1) i 0) = λ i. search needs in mixed-bytes _ _ _ _ _ _ (fits _ .fits) (fits _ .fits) (c .before .times-x .ensures) (c .times-x2 .ensures)
+returns c =
+    let fits : (i : ℕ) → Fits w8 (getD (c .before .before .args .t1) i 0) = λ i. search needs in
+    mixed-bytes _ _ _ _ _ _ (fits _ .fits) (fits _ .fits) (c .before .times-x .ensures) (c .times-x2 .ensures)
 
 pub mixed-entry-spec : {M : Type 1} → statement M
 mixed-entry-spec =

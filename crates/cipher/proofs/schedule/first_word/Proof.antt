@@ -1,4 +1,5 @@
--- `cipher::schedule::first_word` meets its contract. The word added to a row's first word is KEYEXPANSION's temp, turned where d divides r and substituted alone where not. Assumes nothing.
+-- `cipher::schedule::first_word` meets its contract. What is added to a row's first word is KEYEXPANSION's temp: turned where d divides r, and
+-- only substituted where not. Assumes nothing.
 use Rattle.cipher.proofs.KeyRows.{first-turned, first-substituted}
 use Rattle.cipher.specs.ByteField.{xor}
 use mathlib.Core.Path.{refl}
@@ -32,7 +33,10 @@ array-read-t22 c = search needs
 
 returns : tie.Need-returns
 unfolding xor
-returns c = first-turned _ _ _ _ _ (c .before .before .before .pre .0) (c .before .before .before .pre .1) (c .before .before .sub-bytes .ensures) (c .round-constant .ensures) (c .before .if1 .taken)
+returns c =
+    let entry = c .before .before .before in
+    first-turned _ _ _ _ _ (entry .pre .0) (entry .pre .1) (c .before .before .sub-bytes .ensures) (c .round-constant .ensures)
+    (c .before .if1 .taken)
 
 array-read-t25 : tie.Need-array-read-t25
 array-read-t25 c = search needs

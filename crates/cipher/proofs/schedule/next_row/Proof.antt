@@ -37,7 +37,9 @@ loop-less c = omega arith
 
 loop-again : tie.Need-loop-again Inv-loop μ-loop
 unfolding xor
-loop-again c = next-filled (c .before .before .before .args .t1) (c .before .before .before .args .t) _ (c .before .before .loop .inv) (omega arith) (c .added-byte .ensures)
+loop-again c =
+    let args = c .before .before .before .args in
+    next-filled (args .t1) (args .t) _ (c .before .before .loop .inv) (omega arith) (c .added-byte .ensures)
 
 returns : tie.Need-returns Inv-loop μ-loop
 returns c = filled-done (c .before .loop .inv) (omega arith) ∙ next-grown _ _

@@ -34,7 +34,11 @@ next-row-requires : tie.Need-next-row-requires
 next-row-requires c κs = search needs
 
 returns-2 : tie.Need-returns-2
-returns-2 c = rowOf-next _ _ (c .before .before .before .before .before .before .pre .0) _ _ _ _ (omega arith) (c .before .before .before .before .before .before .pre .1 .1 _ (omega arith)) (c .before .before .before .before .before .before .pre .1 .1 _ (omega arith)) (c .before .first-word .ensures) (c .next-row .ensures)
+returns-2 c =
+    let entry = c .before .before .before .before .before .before in
+    let earlier = entry .pre .1 .1 in
+    rowOf-next _ _ (entry .pre .0) _ _ _ _ (omega arith) (earlier _ (omega arith)) (earlier _ (omega arith)) (c .before .first-word .ensures)
+    (c .next-row .ensures)
 
 pub row-at-spec : {M : Type 1} → statement M
 row-at-spec =
