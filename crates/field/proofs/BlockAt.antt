@@ -1,0 +1,71 @@
+-- Laws of a byte list's blocks: the blocks of a joined, a padded and an added list, that every block is small, and that a block's
+-- bytes are read back as the block. They rest on the laws of numbers as bytes (`Bytes`, `XorBytes`) and of blocks (`Values`).
+-- Assumes nothing.
+use mathlib.Core.Path.{_≡_, ap, _∙_}
+use mathlib.Core.List.{List, _++_}
+use Prim.Native.Nat.{ℕ, suc, _+_, _*_, _^_, _≤_, _<_}
+use native.Mathlib.Nat.{mod-eq-of-lt}
+use native.Mathlib.Omega.{arith}
+use lib.ListN.{length, replicate}
+use Rattle.field.specs.declared.blocks.Block.{Block}
+use Rattle.field.specs.Bytes.{number, bytes, xorBytes}
+use Rattle.field.specs.Blocks.{_⊕_, nil, Small, value, block, blockAt, bytesOf}
+use Rattle.field.proofs.Values.{value-lt, block-value, small-block}
+use Rattle.field.proofs.Ring.{block-xor}
+use Rattle.field.proofs.Bytes.{number-lt, number-append-left, number-append-right, number-past, number-padded, number-zeros}
+use Rattle.field.proofs.Bytes.{number-bytes, length-bytes}
+use Rattle.field.proofs.XorBytes.{number-xor}
+
+-- ---- the blocks of a list
+
+-- every block of a list is of two words, whatever the list's elements are
+pub small-blockAt : (s : List ℕ) (i : ℕ) → Small (blockAt s i)
+unfolding blockAt
+small-blockAt s i = small-block (number s (16 * i) 16) (number-lt s (16 * i) 16)
+
+-- a block that lies in the first of two joined lists
+pub blockAt-append-left : (s t : List ℕ) (i : ℕ) → 16 * suc i ≤ length s → blockAt (s ++ t) i ≡ blockAt s i
+unfolding blockAt
+blockAt-append-left s t i h = ap block (number-append-left s t (16 * i) 16 (omega arith))
+
+-- a block of the second of two joined lists, where the first ends with a block
+pub blockAt-append-right : (s t : List ℕ) (j i : ℕ) → length s ≡ 16 * j → blockAt (s ++ t) (j + i) ≡ blockAt t i
+unfolding blockAt
+blockAt-append-right s t j i e =
+    let at : 16 * (j + i) ≡ length s + 16 * i = omega arith in
+    ap block (ap (λ (x : ℕ). number (s ++ t) x 16) at ∙ number-append-right s t (16 * i) 16)
+
+-- zero bytes behind a list change no block of it
+pub blockAt-padded : (s : List ℕ) (r i : ℕ) → blockAt (s ++ replicate r 0) i ≡ blockAt s i
+unfolding blockAt
+blockAt-padded s r i = ap block (number-padded s r (16 * i) 16)
+
+-- past the end of a list there are zero blocks
+pub blockAt-past : (s : List ℕ) (i : ℕ) → length s ≤ 16 * i → blockAt s i ≡ nil
+unfolding blockAt nil
+blockAt-past s i h = ap block (number-past s (16 * i) 16 h)
+
+pub blockAt-zeros : (r i : ℕ) → blockAt (replicate r 0) i ≡ nil
+unfolding blockAt nil
+blockAt-zeros r i = ap block (number-zeros r (16 * i) 16)
+
+-- the block of a sum is the sum of the blocks
+pub blockAt-xor : (s t : List ℕ) (i : ℕ) → blockAt (xorBytes s t) i ≡ blockAt s i ⊕ blockAt t i
+unfolding blockAt
+blockAt-xor s t i =
+    ap block (number-xor s t (16 * i) 16) ∙ block-xor _ _ (number-lt s (16 * i) 16) (number-lt t (16 * i) 16)
+
+-- ---- sixteen bytes
+
+pub length-bytesOf : (b : Block) → length (bytesOf b) ≡ 16
+unfolding bytesOf
+length-bytesOf b = length-bytes 16 (value b)
+
+-- sixteen bytes written are read as the number's block
+pub blockAt-bytes : (v : ℕ) → v < 2 ^ 128 → blockAt (bytes 16 v) 0 ≡ block v
+unfolding blockAt
+blockAt-bytes v h = ap block (number-bytes 16 v ∙ mod-eq-of-lt h)
+
+pub blockAt-bytesOf : (b : Block) → Small b → blockAt (bytesOf b) 0 ≡ b
+unfolding bytesOf
+blockAt-bytesOf b h = blockAt-bytes (value b) (value-lt b) ∙ block-value b h

@@ -1,0 +1,86 @@
+-- Document 01's bench cases of this layer, those marked with a star, as one record.
+-- Each is shown by the laws down to sums and steps of written numbers, which are computed; Algorithm 1 itself is never run.
+-- Rests on Product, Ring and Hash. Assumes nothing.
+use mathlib.Core.Path.{_≡_, refl, sym, ap, _∙_}
+use mathlib.Core.List.{[], _∷_, _++_}
+use Prim.Native.Nat.{ℕ, _*_, _^_, _<_}
+use lib.ListN.{replicate}
+use lib.Count.{ones, onesIn}
+use lib.Dec.{lit<}
+use Rattle.field.specs.declared.blocks.Block.{Block}
+use Rattle.field.specs.Elements.{xor, only, R, shifted}
+use Rattle.field.specs.Bytes.{number, bytes}
+use Rattle.field.specs.Blocks.{block, Small, nil, one, _⊕_, _•_, blockAt}
+use Rattle.field.specs.Powers.{digitsIn, width, steps}
+use Rattle.field.specs.Sums.{blocks}
+use Rattle.field.specs.Ghash.{Yᵢ, padded, hashed, ghash}
+use Rattle.field.proofs.Product.{times-x}
+use Rattle.field.proofs.Values.{small-block}
+use Rattle.field.proofs.Ring.{block-xor, block-times, nil-⊕, •-comm, •-one, one-•}
+use Rattle.field.proofs.Hash.{ghash-nothing}
+
+-- the product by x, on blocks
+•-x : (v : ℕ) → v < 2 ^ 128 → block (2 ^ 126) • block v ≡ block (shifted v)
+•-x v h = sym (block-times (2 ^ 126) v (lit< tt) h) ∙ ap block (times-x v h)
+
+-- x times x^127: 40, then zeros, times zeros, then 01, is E1, then zeros
+x-top : block (2 ^ 126) • block 1 ≡ block (0xe1 * 2 ^ 120)
+x-top = •-x 1 (lit< tt) ∙ unfold shifted only xor R in refl
+
+-- GHASH of one block v and the lengths l, in two products
+two-products : (h : Block) (v l w z : ℕ) → v < 2 ^ 128 → l < 2 ^ 128 → w < 2 ^ 128 → block v • h ≡ block w → block (xor w l) • h ≡ block z
+    → ((nil ⊕ block v) • h ⊕ block l) • h ≡ block z
+two-products h v l w z p q r e f =
+    ap (λ (b : Block). (b • h ⊕ block l) • h) (nil-⊕ (block v) (small-block v p))
+    ∙ ap (λ (b : Block). (b ⊕ block l) • h) e ∙ ap (λ (b : Block). b • h) (sym (block-xor w l r q)) ∙ f
+
+-- H one, the file 01
+ghash-one : ghash one (1 ∷ []) [] ≡ block 0x01000000000000080000000000000000
+unfolding ghash hashed padded blocks bytes Yᵢ blockAt number xor
+ghash-one =
+    two-products one (2 ^ 120) (2 ^ 67) (2 ^ 120) _ (lit< tt) (lit< tt) (lit< tt)
+    (•-one _ (small-block _ (lit< tt))) (•-one _ (small-block _ (lit< tt)))
+
+-- H x, the file fifteen zeros, then 01
+ghash-x : ghash (block (2 ^ 126)) (replicate 15 0 ++ (1 ∷ [])) [] ≡ block 0x70800000000000400000000000000000
+unfolding ghash hashed padded blocks bytes Yᵢ blockAt number shifted only xor R
+ghash-x =
+    two-products (block (2 ^ 126)) 1 (2 ^ 71) (0xe1 * 2 ^ 120) _ (lit< tt) (lit< tt) (lit< tt)
+    (•-comm (block 1) (block (2 ^ 126)) ∙ x-top) (•-comm _ (block (2 ^ 126)) ∙ •-x _ (lit< tt))
+
+pub record Cases : Type 0 where
+  pub one-times : (a : Block) → Small a → one • a ≡ a
+  pub x-times-top : block (2 ^ 126) • block 1 ≡ block (0xe1 * 2 ^ 120)
+  pub hash-of-nothing : (h : Block) → ghash h [] [] ≡ nil
+  pub hash-under-one : ghash one (1 ∷ []) [] ≡ block 0x01000000000000080000000000000000
+  pub hash-under-x : ghash (block (2 ^ 126)) (replicate 15 0 ++ (1 ∷ [])) [] ≡ block 0x70800000000000400000000000000000
+  pub steps-0 : steps 0 ≡ 0
+  pub steps-1 : steps 1 ≡ 1
+  pub steps-2 : steps 2 ≡ 2
+  pub steps-5 : steps 5 ≡ 4
+  pub steps-255 : steps 255 ≡ 15
+  pub steps-256 : steps 256 ≡ 9
+  -- and what the cases of n = 40, of three and of four blocks, come to
+  pub steps-3 : steps 3 ≡ 3
+  pub width-3 : width 3 ≡ 2
+  pub width-4 : width 4 ≡ 3
+
+pub cases : Cases
+unfolding steps width digitsIn ones onesIn
+cases =
+    record {
+      one-times = one-•;
+      x-times-top = x-top;
+      hash-of-nothing = ghash-nothing;
+      hash-under-one = ghash-one;
+      hash-under-x = ghash-x;
+      steps-0 = refl;
+      steps-1 = refl;
+      steps-2 = refl;
+      steps-5 = refl;
+      steps-255 = refl;
+      steps-256 = refl;
+      steps-3 = refl;
+      width-3 = refl;
+      width-4 = refl;
+    }

@@ -1,0 +1,112 @@
+-- The laws of blocks under ⊕ and •: a commutative ring with unit, in which every element added to itself is nothing.
+-- Only the laws that give a block back ask that it be small, since `value` reads a word by its 64 bits.
+-- Rests on Xor, Product and Values.
+-- Assumes nothing.
+use mathlib.Core.Path.{_≡_, sym, ap, ap₂, _∙_}
+use Prim.Native.Nat.{ℕ, _^_, _<_}
+use Rattle.field.specs.declared.blocks.Block.{Block}
+use Rattle.field.specs.Elements.{xor, times}
+use Rattle.field.specs.Blocks.{value, block, Small, nil, one, _⊕_, _•_}
+use Rattle.field.proofs.Commutative.{left-comm, swap}
+use Rattle.field.proofs.Xor as x
+use Rattle.field.proofs.Product as p
+use Rattle.field.proofs.Values.{value-lt, value-block, block-value, small-block, value-nil, value-one}
+
+-- sums and products as numbers, and numbers' sums and products as blocks
+
+pub value-⊕ : (a b : Block) → value (a ⊕ b) ≡ xor (value a) (value b)
+unfolding _⊕_
+value-⊕ a b = value-block _ (x.xor-lt 128 _ _ (value-lt a) (value-lt b))
+
+pub value-• : (a b : Block) → value (a • b) ≡ times (value a) (value b)
+unfolding _•_
+value-• a b = value-block _ (p.times-lt _ _ (value-lt b))
+
+pub small-⊕ : (a b : Block) → Small (a ⊕ b)
+unfolding _⊕_
+small-⊕ a b = small-block _ (x.xor-lt 128 _ _ (value-lt a) (value-lt b))
+
+pub small-• : (a b : Block) → Small (a • b)
+unfolding _•_
+small-• a b = small-block _ (p.times-lt _ _ (value-lt b))
+
+pub block-xor : (a b : ℕ) → a < 2 ^ 128 → b < 2 ^ 128 → block (xor a b) ≡ block a ⊕ block b
+unfolding _⊕_
+block-xor a b p q = ap block (sym (ap₂ xor (value-block a p) (value-block b q)))
+
+pub block-times : (a b : ℕ) → a < 2 ^ 128 → b < 2 ^ 128 → block (times a b) ≡ block a • block b
+unfolding _•_
+block-times a b p q = ap block (sym (ap₂ times (value-block a p) (value-block b q)))
+
+-- the sum
+
+pub ⊕-comm : (a b : Block) → a ⊕ b ≡ b ⊕ a
+unfolding _⊕_
+⊕-comm a b = ap block (x.xor-comm _ _)
+
+pub ⊕-assoc : (a b c : Block) → a ⊕ b ⊕ c ≡ a ⊕ (b ⊕ c)
+⊕-assoc a b c = unfold _⊕_ in ap block numbers
+  where
+    numbers : xor (value (a ⊕ b)) (value c) ≡ xor (value a) (value (b ⊕ c))
+    numbers = simp value-⊕ (x.xor-assoc _ _ _)
+
+pub ⊕-self : (a : Block) → a ⊕ a ≡ nil
+unfolding _⊕_ nil
+⊕-self a = ap block (x.xor-self _)
+
+pub nil-⊕ : (a : Block) → Small a → nil ⊕ a ≡ a
+unfolding _⊕_
+nil-⊕ a s = ap block (ap (λ (v : ℕ). xor v (value a)) value-nil ∙ x.xor-zero-l _) ∙ block-value a s
+
+pub ⊕-nil : (a : Block) → Small a → a ⊕ nil ≡ a
+⊕-nil a s = ⊕-comm a nil ∙ nil-⊕ a s
+
+pub ⊕-left-comm : (a b c : Block) → a ⊕ (b ⊕ c) ≡ b ⊕ (a ⊕ c)
+⊕-left-comm = left-comm _⊕_ ⊕-assoc ⊕-comm
+
+pub ⊕-swap : (a b c d : Block) → a ⊕ b ⊕ (c ⊕ d) ≡ a ⊕ c ⊕ (b ⊕ d)
+⊕-swap = swap _⊕_ ⊕-assoc ⊕-comm
+
+-- what is added twice is gone
+pub ⊕-cancel : (a b : Block) → Small b → a ⊕ (a ⊕ b) ≡ b
+⊕-cancel a b s = sym (⊕-assoc a a b) ∙ ap (λ (c : Block). c ⊕ b) (⊕-self a) ∙ nil-⊕ b s
+
+-- the product
+
+pub •-comm : (a b : Block) → a • b ≡ b • a
+unfolding _•_
+•-comm a b = ap block (p.times-comm _ _ (value-lt a) (value-lt b))
+
+pub •-assoc : (a b c : Block) → a • b • c ≡ a • (b • c)
+•-assoc a b c = unfold _•_ in ap block numbers
+  where
+    numbers : times (value (a • b)) (value c) ≡ times (value a) (value (b • c))
+    numbers = simp value-• (p.times-assoc _ _ _ (value-lt b) (value-lt c))
+
+pub •-swap : (a b c d : Block) → a • b • (c • d) ≡ a • c • (b • d)
+•-swap = swap _•_ •-assoc •-comm
+
+-- the product distributes over the sum
+
+pub •-⊕ : (a b c : Block) → a • (b ⊕ c) ≡ a • b ⊕ a • c
+•-⊕ a b c = unfold _•_ _⊕_ in ap block numbers
+  where
+    numbers : times (value a) (value (b ⊕ c)) ≡ xor (value (a • b)) (value (a • c))
+    numbers = simp (value-⊕, value-•) (p.times-xor-r _ _ _)
+
+pub ⊕-• : (a b c : Block) → (a ⊕ b) • c ≡ a • c ⊕ b • c
+⊕-• a b c = •-comm (a ⊕ b) c ∙ •-⊕ c a b ∙ ap₂ _⊕_ (•-comm c a) (•-comm c b)
+
+-- nothing and one
+
+pub •-nil : (a : Block) → a • nil ≡ nil
+•-nil a = unfold _•_ nil in ap block (ap (times (value a)) value-nil ∙ p.times-zero-r _)
+
+pub nil-• : (a : Block) → nil • a ≡ nil
+nil-• a = •-comm nil a ∙ •-nil a
+
+pub one-• : (a : Block) → Small a → one • a ≡ a
+one-• a s = unfold _•_ in ap block (ap (λ (v : ℕ). times v (value a)) value-one ∙ p.times-one-l _) ∙ block-value a s
+
+pub •-one : (a : Block) → Small a → a • one ≡ a
+•-one a s = •-comm a one ∙ one-• a s

@@ -1,0 +1,50 @@
+-- `field::seeking::companion` meets its contract. The loop's invariant is `Doubling` of `Seek`: after j turns x is h^(2^j) and y
+-- is h^(2^(j+1) − 2). Assumes nothing.
+use Prim.Native.Nat.{_-_}
+use native.Mathlib.Omega.{arith}
+use Rattle.field.specs.Blocks.{one, block}
+use Rattle.field.proofs.Seek.{Doubling, doubling-start, doubling-next, doubling-done}
+use Rattle.field.proofs.seeking.companion.Statement.{statement}
+use Rattle.field.proofs.seeking.companion.Tie as tie
+
+abbrev Inv-loop : tie.InvT-loop
+Inv-loop x₀ y₀ j₀ x y j = Doubling x₀ j x y
+
+abbrev μ-loop : tie.MeasureT-loop
+μ-loop x₀ y₀ j₀ x y j = 127 - j
+
+loop-holds : tie.Need-loop-holds Inv-loop μ-loop
+unfolding one block
+loop-holds c = doubling-start _ (record { hi = omega arith; lo = omega arith })
+
+product-requires : tie.Need-product-requires Inv-loop μ-loop
+product-requires c κs = tt
+
+product-requires-2 : tie.Need-product-requires-2 Inv-loop μ-loop
+product-requires-2 c κs = tt
+
+add-j : tie.Need-add-j Inv-loop μ-loop
+add-j c = omega arith
+
+loop-less : tie.Need-loop-less Inv-loop μ-loop
+loop-less c = omega arith
+
+loop-again : tie.Need-loop-again Inv-loop μ-loop
+loop-again c = doubling-next (c .before .before .before .loop .inv) (omega arith) (c .before .product .ensures) (c .product2 .ensures)
+
+returns : tie.Need-returns Inv-loop μ-loop
+returns c = doubling-done (c .before .loop .inv) (omega arith)
+
+pub companion-spec : {M : Type 1} → statement M
+companion-spec =
+    tie.close
+    (tie.spec
+    Inv-loop
+    μ-loop
+    loop-holds
+    product-requires
+    product-requires-2
+    add-j
+    loop-less
+    loop-again
+    returns)

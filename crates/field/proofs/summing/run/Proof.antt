@@ -1,0 +1,25 @@
+-- `field::summing::run` meets its contract. It is a fold with nothing in front and nothing added (`Folds`). Assumes nothing.
+use mathlib.Core.Path.{ap}
+use borrow.Author.Needs.{needs}
+use native.Mathlib.Omega.{arith}
+use Rattle.field.specs.declared.multiplying.Counted.{Counted}
+use Rattle.field.specs.Sums.{blocks}
+use Rattle.field.proofs.Folds.{folded}
+use Rattle.field.proofs.summing.run.Statement.{statement}
+use Rattle.field.proofs.summing.run.Tie as tie
+
+blocks-requires : tie.Need-blocks-requires
+blocks-requires c κs = search needs
+
+slice-aggregate-fold : tie.Need-slice-aggregate-fold
+slice-aggregate-fold c = search needs
+
+fold-requires : tie.Need-fold-requires
+unfolding blocks
+fold-requires c κs = omega arith
+
+returns : tie.Need-returns
+returns c = folded _ _ _ _ (c .before .before .before .blocks2 .ensures) (ap (λ (r : Counted). r .value) (c .before .fold .ensures))
+
+pub run-spec : {M : Type 1} → statement M
+run-spec = tie.close (tie.spec blocks-requires slice-aggregate-fold fold-requires returns)

@@ -1,0 +1,11 @@
+-- The definitions, from the bottom up. `Field` hands them on to the layers above, which import it alone.
+pub mod Elements
+pub mod Bytes
+pub mod Blocks
+pub mod Powers
+pub mod Sums
+pub mod Ghash
+pub mod Counts
+pub mod Streams
+pub mod Answers
+pub mod Field

@@ -1,0 +1,72 @@
+// GF(2^128) as SP 800-38D has it: blocks, products, powers, sums of bytes and GHASH. This layer
+// knows nothing of the cipher or of files.
+pub mod blocks;
+pub mod hashing;
+pub mod multiplying;
+pub mod packing;
+pub mod seeking;
+pub mod streaming;
+pub mod summing;
+
+pub use blocks::Block;
+use hashing::LIMIT;
+use hashing::hash;
+use multiplying::product;
+ghost use mathlib.Core.Path.{_≡_};
+ghost use Rattle.field.specs.Answers.{answerNumber, multiplyNumber, multiplyOutput, ghashNumber, ghashOutput};
+
+// Why a call is refused. Document 01's numbers for the causes are in specs/Answers.
+pub enum Cause {
+    // A block or the hash key is not sixteen bytes.
+    InputLength,
+    // An input of GHASH passes 2^61 - 1 bytes.
+    TooLong,
+    // The output is not sixteen bytes.
+    OutputLength,
+}
+
+pub enum Answer {
+    Done,
+    Refused(Cause),
+}
+
+// The product of two blocks, written to out. Refused, in this order, where a or b is not sixteen bytes and where out is not; out
+// then stays as it was. The time depends on no byte.
+pub fn multiply(a: &[u8], b: &[u8], out: &mut [u8]) -> Answer
+    ensures answer { λ r. ⌜ answerNumber r ≡ multiplyNumber (now (a .entry)) (now (b .entry)) (now (out .entry)) ⌝ }
+    ensures output { λ _. ⌜ now (out .exit) ≡ multiplyOutput (now (a .entry)) (now (b .entry)) (now (out .entry)) ⌝ }
+{
+    if a.len() != 16 {
+        return Answer::Refused(Cause::InputLength);
+    }
+    if b.len() != 16 {
+        return Answer::Refused(Cause::InputLength);
+    }
+    if out.len() != 16 {
+        return Answer::Refused(Cause::OutputLength);
+    }
+    product(Block::from_bytes(a), Block::from_bytes(b)).write(out, 0);
+    Answer::Done
+}
+
+// GHASH of a and c under the hash key h, written to out. Refused, in this order, where h is not sixteen bytes, where out is not,
+// and where a or c is longer than 2^61 - 1 bytes; out then stays as it was. The time depends on the lengths alone.
+pub fn ghash(h: &[u8], a: &[u8], c: &[u8], out: &mut [u8]) -> Answer
+    ensures answer { λ r. ⌜ answerNumber r ≡ ghashNumber (now (h .entry)) (now (a .entry)) (now (c .entry)) (now (out .entry)) ⌝ }
+    ensures output { λ _. ⌜ now (out .exit) ≡ ghashOutput (now (h .entry)) (now (a .entry)) (now (c .entry)) (now (out .entry)) ⌝ }
+{
+    if h.len() != 16 {
+        return Answer::Refused(Cause::InputLength);
+    }
+    if out.len() != 16 {
+        return Answer::Refused(Cause::OutputLength);
+    }
+    if a.len() > LIMIT {
+        return Answer::Refused(Cause::TooLong);
+    }
+    if c.len() > LIMIT {
+        return Answer::Refused(Cause::TooLong);
+    }
+    hash(Block::from_bytes(h), a, c).write(out, 0);
+    Answer::Done
+}

@@ -1,0 +1,52 @@
+// Numbers as big-endian bytes, read from a slice and written to one.
+ghost use mathlib.Core.Path.{_≡_};
+ghost use mathlib.Core.List.{_++_};
+ghost use Prim.Native.Nat.{_+_, _≤_, _<_, _^_};
+ghost use lib.ListN.{length, getD, replicate};
+ghost use lib.Seq.{sets};
+ghost use Rattle.field.specs.Bytes.{number, bytes};
+
+// The byte at place v of lead zero bytes followed by s, and 0 past the end. Nothing is copied to put the zero bytes in front.
+fn byte_at(lead: usize, s: &[u8], v: usize) -> u8
+    ensures { λ r. ⌜ r ≡ getD (replicate lead 0 ++ now (s .entry)) v 0 ⌝ }
+{
+    if v < lead {
+        return 0;
+    }
+    let i = v - lead;
+    if s.len() <= i {
+        return 0;
+    }
+    s[i]
+}
+
+// The number of the count bytes from place at of lead zero bytes followed by s. It serves the layers above, which read words so.
+// The requires: eight bytes fill the word, and no place that is read may pass the largest index.
+pub fn number_at(lead: usize, s: &[u8], at: usize, count: usize) -> u64
+    requires { ⌜ (count ≤ 8) × (at + count < 2 ^ 64) ⌝ }
+    ensures { λ r. ⌜ r ≡ number (replicate lead 0 ++ now (s .entry)) at count ⌝ }
+{
+    let mut n: u64 = 0;
+    let mut k: usize = 0;
+    while k < count {
+        let b = byte_at(lead, s, at + k);
+        n = n * 256 + b as u64;
+        k += 1;
+    }
+    n
+}
+
+// Writes the count bytes of v from place at on, the last first. It serves the layers above, which write words so.
+// The requires: the bytes have room in out.
+pub fn store(out: &mut [u8], at: usize, count: usize, v: u64)
+    requires { ⌜ at + count ≤ length (now out) ⌝ }
+    ensures { λ _. ⌜ now (out .exit) ≡ sets (now (out .entry)) at (bytes count v) ⌝ }
+{
+    let mut rest = v;
+    let mut k = count;
+    while 0 < k {
+        k -= 1;
+        out[at + k] = (rest % 256) as u8;
+        rest /= 256;
+    }
+}

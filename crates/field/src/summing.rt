@@ -1,0 +1,67 @@
+// Sums over a byte list's blocks by Horner's rule, where the bytes lie.
+use super::blocks::Block;
+use super::multiplying::Counted;
+use super::multiplying::counted_product;
+ghost use mathlib.Core.Path.{_≡_};
+ghost use mathlib.Core.List.{_++_};
+ghost use Prim.Native.Nat.{_+_, _≤_, _<_, _^_};
+ghost use lib.ListN.{length, replicate};
+ghost use Rattle.field.specs.Bytes.{xorBytes};
+ghost use Rattle.field.specs.Sums;
+ghost use Rattle.field.specs.Ghash.{Yᵢ};
+ghost use Rattle.field.specs.Counts.{counted};
+
+// How many blocks n bytes fill: n / 16 rounded up, for any n. It serves the layers above.
+pub fn blocks(n: u64) -> u64
+    ensures { λ r. ⌜ r ≡ Sums.blocks n ⌝ }
+{
+    let whole = n / 16;
+    if n % 16 == 0 {
+        return whole;
+    }
+    whole + 1
+}
+
+// Horner's rule from start over the first q blocks of lead zero bytes followed by a added to b, byte by byte; the shorter is
+// padded with zero bytes, and nothing is copied. Each product adds one to count. It serves the layers above, whose edits are sums
+// of old and new bytes. The requires: the last place that is read is no larger than an index can be, and the count has room.
+pub fn fold(
+    h: Block,
+    start: Block,
+    lead: usize,
+    a: &[u8],
+    b: &[u8],
+    q: usize,
+    count: u64,
+) -> Counted
+    requires { ⌜ (q ≤ 2 ^ 59) × (count + q < 2 ^ 64) ⌝ }
+    ensures { λ r. ⌜ r ≡ counted (Yᵢ h start (replicate lead 0 ++ xorBytes (now (a .entry)) (now (b .entry))) q) (count + q) ⌝ }
+{
+    let mut y = start;
+    let mut n = count;
+    let mut i: usize = 0;
+    while i < q {
+        let x = Block::load(lead, a, i).plus(Block::load(lead, b, i));
+        let next = counted_product(y.plus(x), h, n);
+        y = next.value;
+        n = next.count;
+        i += 1;
+    }
+    Counted { value: y, count: n }
+}
+
+// Horner's rule from start over all the blocks of s. It serves the layers above.
+pub fn run(h: Block, start: Block, s: &[u8]) -> Block
+    ensures { λ r. ⌜ r ≡ Yᵢ h start (now (s .entry)) (Sums.blocks (length (now (s .entry)))) ⌝ }
+{
+    let q = blocks(s.len() as u64) as usize;
+    let y = fold(h, start, 0, s, &s[..0], q, 0);
+    y.value
+}
+
+// The sum S of s. It serves the layers above.
+pub fn sum(h: Block, s: &[u8]) -> Block
+    ensures { λ r. ⌜ r ≡ Sums.sum h (now (s .entry)) ⌝ }
+{
+    run(h, Block::ZERO, s)
+}

@@ -1,0 +1,62 @@
+//! A small repeatable random generator for tests: splitmix64.
+
+/// The generator's whole memory is one 64-bit number.
+pub struct Random(u64);
+
+impl Random {
+    pub fn new(seed: u64) -> Random {
+        Random(seed)
+    }
+
+    /// A generator for one test. The environment variable REFERENCE_SEED, a
+    /// decimal number, replaces the usual seed; the seed in use is printed.
+    pub fn for_test(usual: u64) -> Random {
+        let given = std::env::var("REFERENCE_SEED").ok();
+        let seed = given.map_or(usual, |text| {
+            text.parse().expect("REFERENCE_SEED is not a number")
+        });
+        println!("seed {seed}");
+        Random(seed)
+    }
+
+    /// The next random number of 64 bits.
+    pub fn number(&mut self) -> u64 {
+        self.0 = self.0.wrapping_add(0x9e37_79b9_7f4a_7c15);
+        let mut z = self.0;
+        z = (z ^ (z >> 30)).wrapping_mul(0xbf58_476d_1ce4_e5b9);
+        z = (z ^ (z >> 27)).wrapping_mul(0x94d0_49bb_1331_11eb);
+        z ^ (z >> 31)
+    }
+
+    /// A number from 0 to limit - 1.
+    pub fn below(&mut self, limit: u64) -> u64 {
+        self.number() % limit
+    }
+
+    /// True once in `times` calls, on average.
+    pub fn once_in(&mut self, times: u64) -> bool {
+        self.below(times) == 0
+    }
+
+    pub fn bytes(&mut self, count: usize) -> Vec<u8> {
+        (0..count).map(|_| self.number() as u8).collect()
+    }
+
+    pub fn block(&mut self) -> [u8; 16] {
+        std::array::from_fn(|_| self.number() as u8)
+    }
+}
+
+#[cfg(test)]
+mod tests {
+    use super::*;
+
+    /// The first outputs of splitmix64 for the seed 1234567, as published.
+    #[test]
+    fn published_outputs() {
+        let mut random = Random::new(1234567);
+        assert_eq!(random.number(), 6457827717110365317);
+        assert_eq!(random.number(), 3203168211198807973);
+        assert_eq!(random.number(), 9817491932198370423);
+    }
+}

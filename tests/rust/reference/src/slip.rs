@@ -1,0 +1,113 @@
+//! The slip, document 01, "Slip, seal, check": 36 bytes, packed most
+//! significant bit first.
+
+use crate::field::Block;
+use crate::refusal::{refuse, BAD_BUFFER, BAD_VERSION};
+
+/// The bytes of a slip.
+pub const SLIP_BYTES: usize = 36;
+
+/// The only version, kept in three bits.
+pub const VERSION: u64 = 1;
+
+/// The fields of a slip after its version.
+#[derive(Clone, Copy, Debug, PartialEq, Eq)]
+pub struct Slip {
+    pub length: u64,
+    pub arm: u32,
+    pub number: u64,
+    pub tag: Block,
+}
+
+impl Slip {
+    /// The slip's bytes: each field's bits follow those of the one before.
+    pub fn pack(&self) -> [u8; SLIP_BYTES] {
+        let fields = [
+            (3, u128::from(VERSION)),
+            (61, u128::from(self.length)),
+            (32, u128::from(self.arm)),
+            (64, u128::from(self.number)),
+            (128, u128::from_be_bytes(self.tag)),
+        ];
+        let mut bits = Vec::new();
+        for (width, value) in fields {
+            bits.extend((0..width).rev().map(|i| (value >> i) & 1 == 1));
+        }
+        std::array::from_fn(|i| byte_of(&bits[8 * i..8 * i + 8]))
+    }
+
+    /// The fields of a slip, or its refusal: 7, 8.
+    pub fn open(bytes: &[u8]) -> Result<Slip, u64> {
+        refuse(&[(bytes.len() != SLIP_BYTES, BAD_BUFFER)])?;
+        let version = number_of(bytes, 0, 3);
+        refuse(&[(version != u128::from(VERSION), BAD_VERSION)])?;
+        Ok(Slip {
+            length: number_of(bytes, 3, 61) as u64,
+            arm: number_of(bytes, 64, 32) as u32,
+            number: number_of(bytes, 96, 64) as u64,
+            tag: number_of(bytes, 160, 128).to_be_bytes(),
+        })
+    }
+
+    /// The nonce of the slip's tag: arm, then number.
+    pub fn nonce(&self) -> [u8; 12] {
+        nonce(self.arm, self.number)
+    }
+}
+
+/// Arm and number are the 12-byte nonce.
+pub fn nonce(arm: u32, number: u64) -> [u8; 12] {
+    let mut bytes = [0; 12];
+    bytes[..4].copy_from_slice(&arm.to_be_bytes());
+    bytes[4..].copy_from_slice(&number.to_be_bytes());
+    bytes
+}
+
+fn byte_of(bits: &[bool]) -> u8 {
+    bits.iter()
+        .fold(0, |byte, &bit| (byte << 1) | u8::from(bit))
+}
+
+/// The number in `width` bits of the bytes, from bit `first` on.
+fn number_of(bytes: &[u8], first: usize, width: usize) -> u128 {
+    (first..first + width).fold(0, |number, i| {
+        let bit = (bytes[i / 8] >> (7 - i % 8)) & 1;
+        (number << 1) | u128::from(bit)
+    })
+}
+
+#[cfg(test)]
+mod tests {
+    use super::*;
+    use crate::random::Random;
+
+    #[test]
+    fn packing_by_whole_words_gives_the_same_bytes() {
+        let mut random = Random::for_test(7);
+        for _ in 0..500 {
+            let slip = Slip {
+                length: random.number() >> 3,
+                arm: random.number() as u32,
+                number: random.number(),
+                tag: random.block(),
+            };
+            let mut expected = ((1 << 61) | slip.length).to_be_bytes().to_vec();
+            expected.extend(slip.nonce());
+            expected.extend(slip.tag);
+            assert_eq!(slip.pack().to_vec(), expected);
+            assert_eq!(Slip::open(&expected), Ok(slip));
+        }
+    }
+
+    #[test]
+    fn opening_refuses_7_then_8() {
+        for length in (0..80).filter(|&length| length != SLIP_BYTES) {
+            assert_eq!(Slip::open(&vec![0; length]), Err(7));
+        }
+        for version in 0..8_u8 {
+            let mut bytes = [0; SLIP_BYTES];
+            bytes[0] = version << 5;
+            assert_eq!(Slip::open(&bytes).err(), (version != 1).then_some(8));
+        }
+    }
+}
