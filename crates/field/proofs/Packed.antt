@@ -75,7 +75,7 @@ sets-snoc l i (a ∷ vs) x =
     ∙ sets-snoc (set l i a) (suc i) vs x
 
 -- two runs of stores, the second where the first ends, are one
-sets-append : (l : List ℕ) (i : ℕ) (vs ws : List ℕ) → sets (sets l i vs) (i + length vs) ws ≡ sets l i (vs ++ ws)
+pub sets-append : (l : List ℕ) (i : ℕ) (vs ws : List ℕ) → sets (sets l i vs) (i + length vs) ws ≡ sets l i (vs ++ ws)
 sets-append l i [] ws = ap (λ (j : ℕ). sets l j ws) (add-zero i)
 sets-append l i (a ∷ vs) ws =
     let e : i + suc (length vs) ≡ suc i + length vs = omega arith in

@@ -1,0 +1,75 @@
+-- Document 01's bench cases, those marked with a star, hold.
+-- Those of the field are field's own law (Cases); the counts rest on its values of block counts and steps (Horner, Cases), and the slip's first
+-- bytes on the bytes of a number (Bytes).
+-- Assumes nothing.
+use mathlib.Core.Path.{_≡_, ap, _∙_}
+use mathlib.Core.List.{[], _∷_}
+use Prim.Native.Nat.{ℕ, _+_, _*_, _^_, _<_}
+use native.Mathlib.Nat.{le-refl, lt-of-lt-of-le, add-assoc, add-lt-add-of-le-of-lt}
+use lib.Dec.{lit≤}
+use lib.ListN.{take}
+use lib.Seq.{take-at}
+use Rattle.field.specs.Field.{bytes}
+use Rattle.field.proofs.Bytes.{length-bytes, bytes-append, bytes-zero, bytes-suc}
+use Rattle.field.proofs.Horner.{blocks-value}
+use Rattle.field.proofs.Cases.{cases}
+use Rattle.file.specs.Edits.{start, touched, exponent, countOf}
+use Rattle.file.specs.Slips.{slipValue, slipBytes}
+use Rattle.file.specs.BenchCases.{BenchCases}
+
+-- a slip of version 1, length 40, arm 7 and number 1: what stands before the seal number and the tag
+slip-head : (tag : ℕ) → tag < 2 ^ 128 → take 12 (slipBytes 40 7 1 tag) ≡ bytes 12 ((2 ^ 61 + 40) * 2 ^ 32 + 7)
+unfolding slipBytes slipValue
+slip-head tag h =
+    let a = (2 ^ 61 + 40) * 2 ^ 32 + 7 in
+    let b = 2 ^ 128 + tag in
+    let small : b < 256 ^ 24 = lt-of-lt-of-le (add-lt-add-of-le-of-lt (le-refl (2 ^ 128)) h) (lit≤ tt) in
+    ap (λ (v : ℕ). take 12 (bytes 36 v)) (add-assoc (a * 256 ^ 24) (2 ^ 128) tag)
+    ∙ ap (take 12) (bytes-append 12 24 a b small)
+    ∙ take-at (bytes 12 a) (bytes 24 b) 12 (length-bytes 12 a)
+
+-- and its bytes
+head-bytes : bytes 12 ((2 ^ 61 + 40) * 2 ^ 32 + 7) ≡ 0x20 ∷ 0 ∷ 0 ∷ 0 ∷ 0 ∷ 0 ∷ 0 ∷ 0x28 ∷ 0 ∷ 0 ∷ 0 ∷ 7 ∷ []
+head-bytes =
+    rw (
+      bytes-suc 11,
+      bytes-suc 10,
+      bytes-suc 9,
+      bytes-suc 8,
+      bytes-suc 7,
+      bytes-suc 6,
+      bytes-suc 5,
+      bytes-suc 4,
+      bytes-suc 3,
+      bytes-suc 2,
+      bytes-suc 1,
+      bytes-suc 0,
+      bytes-zero,
+    )
+
+pub bench-cases : BenchCases
+unfolding countOf start touched exponent
+bench-cases =
+    record {
+      one-times = cases .one-times;
+      x-times-top = cases .x-times-top;
+      hash-of-nothing = cases .hash-of-nothing;
+      hash-under-one = cases .hash-under-one;
+      hash-under-x = cases .hash-under-x;
+      steps-0 = cases .steps-0;
+      steps-1 = cases .steps-1;
+      steps-2 = cases .steps-2;
+      steps-5 = cases .steps-5;
+      steps-255 = cases .steps-255;
+      steps-256 = cases .steps-256;
+      change-17 = simp (blocks-value, cases .steps-1);
+      change-15-16 = simp (blocks-value, cases .steps-1);
+      append-8 = simp (blocks-value, cases .steps-0);
+      append-9 = simp (blocks-value, cases .steps-1);
+      prepend-16 = simp (blocks-value, cases .steps-3);
+      drop-16 = simp (blocks-value, cases .steps-2);
+      cut-8 = simp (blocks-value, cases .steps-1);
+      cut-9 = simp (blocks-value, cases .steps-1);
+      cut-40 = simp (blocks-value, cases .steps-3);
+      slip-begins = λ tag h. slip-head tag h ∙ head-bytes;
+    }

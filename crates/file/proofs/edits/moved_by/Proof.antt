@@ -1,0 +1,38 @@
+-- `file::edits::moved_by` meets its contract. The fold is the sum of the placed bytes, and the running count has room
+-- (`EditCases`). Assumes nothing.
+use mathlib.Core.Path.{refl, ap}
+use native.Mathlib.Omega.{arith}
+use borrow.Author.Needs.{needs}
+use Rattle.field.specs.declared.multiplying.Counted.{Counted}
+use Rattle.file.proofs.EditCases.{moved-sum, moved-count}
+use Rattle.file.proofs.edits.moved_by.Statement.{statement}
+use Rattle.file.proofs.edits.moved_by.Tie as tie
+
+fold-requires : tie.Need-fold-requires
+fold-requires c κs = search needs
+
+arranged-requires : tie.Need-arranged-requires
+arranged-requires c κs = search needs
+
+times-power-requires : tie.Need-times-power-requires
+times-power-requires c κs =
+    let fold = c .before .before .before .before in
+    omega (arith, ap (λ (r : Counted). r .count) (fold .fold .ensures), fold .before .before .before .before .pre)
+
+plus-requires : tie.Need-plus-requires
+plus-requires c κs = search needs
+
+returns : tie.Need-returns
+returns c =
+    let times = c .before .before .before in
+    let row = times .before .before .before in
+    let fold = row .before .before in
+    let start = fold .before .before .before .before in (
+      moved-sum _ _ _ _ _ _ _ (row .arranged .result) (start .pre .0) (fold .fold .ensures) (row .arranged .ensures)
+          (times .times-power .ensures) (c .plus .ensures),
+      (refl, moved-count _ _ (fold .fold .ensures) (times .times-power .ensures)),
+    )
+
+pub moved-by-spec : {M : Type 1} → statement M
+moved-by-spec =
+    tie.close (tie.spec fold-requires arranged-requires times-power-requires plus-requires returns)

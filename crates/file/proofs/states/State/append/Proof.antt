@@ -1,0 +1,22 @@
+-- `file::states::State::append` meets its contract. It is `edit` of its kind, with nothing added to the given bytes. Assumes
+-- nothing.
+use mathlib.Core.Logic.{inr}
+use mathlib.Core.Path.{refl}
+use borrow.Author.Needs.{needs}
+use Rattle.file.specs.States.{edited}
+use Rattle.file.specs.Edits.{kindOf, placeOf, given, replacing}
+use Rattle.file.proofs.states.State.append.Statement.{statement}
+use Rattle.file.proofs.states.State.append.Tie as tie
+
+slice-aggregate-edit : tie.Need-slice-aggregate-edit
+slice-aggregate-edit c = search needs
+
+edit-requires : tie.Need-edit-requires
+edit-requires c κs = inr refl
+
+returns : tie.Need-returns
+unfolding edited kindOf placeOf given replacing
+returns c = c .edit .ensures
+
+pub append-spec : {M : Type 1} → statement M
+append-spec = tie.close (tie.spec slice-aggregate-edit edit-requires returns)

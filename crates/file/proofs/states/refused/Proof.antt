@@ -1,0 +1,12 @@
+-- `file::states::refused` meets its contract, by the definition. Assumes nothing.
+use mathlib.Core.Path.{refl}
+use Rattle.file.specs.States.{zeroState}
+use Rattle.file.proofs.states.refused.Statement.{statement}
+use Rattle.file.proofs.states.refused.Tie as tie
+
+returns : tie.Need-returns
+unfolding zeroState
+returns c = refl
+
+pub refused-spec : {M : Type 1} → statement M
+refused-spec = tie.close (tie.spec returns)

@@ -1,0 +1,10 @@
+pub mod Causes
+pub mod Tags
+pub mod Edits
+pub mod Table
+pub mod States
+pub mod Slips
+pub mod Machine
+pub mod Runs
+pub mod Demands
+pub mod BenchCases

@@ -1,0 +1,81 @@
+-- The plain machine that the editor is compared with (document 01, "The file and its five edits"): it holds the bytes themselves and the last
+-- used number, and takes nothing from the controller's state.
+-- Assumes nothing.
+use mathlib.Core.Path.{_≡_}
+use mathlib.Core.Bool.{cond}
+use mathlib.Core.List.{List, _++_}
+use Prim.Native.Nat.{ℕ, _+_, _-_, _*_, max}
+use lib.Dec.{eqb}
+use lib.ListN.{length, take, drop, replicate}
+use Rattle.field.specs.Field.{blocks, width}
+use Rattle.file.specs.Edits.{Edit, change, append, prepend, dropFront, cutTail, kindOf, placeOf, given, start, lengthAfter, touched, countOf}
+use Rattle.file.specs.States.{refusalOf}
+use Rattle.file.specs.Slips.{sealNumber, checkNumber}
+
+-- a call of a list: an edit, a seal with its buffer, a check with its slip
+pub data Call : Type 0 where
+  edit : Edit → Call
+  seal : List ℕ → Call
+  check : List ℕ → Call
+
+pub record Machine : Type 0 where
+  pub bytes : List ℕ
+  pub last : ℕ
+
+-- after an accepted start: n zero bytes and the number given
+unfoldable pub blank : (n last : ℕ) → Machine
+blank n last = record { bytes = replicate n 0; last = last }
+
+-- the refusal of a call by a length and a last used number, or 0
+unfoldable pub callNumber : (n last : ℕ) → Call → ℕ
+callNumber n last (edit e) = refusalOf n e
+callNumber n last (seal out) = sealNumber n last out
+callNumber n last (check slip) = checkNumber n slip
+
+-- the machine refuses by the count of bytes it holds
+unfoldable pub machineNumber : Machine → Call → ℕ
+machineNumber m c = callNumber (length (m .bytes)) (m .last) c
+
+-- the bytes after an accepted edit
+unfoldable pub bytesAfter : List ℕ → Edit → List ℕ
+bytesAfter f (change p old new) = take p f ++ new ++ drop (p + length new) f
+bytesAfter f (append s) = f ++ s
+bytesAfter f (prepend s) = s ++ f
+bytesAfter f (dropFront s) = drop (length s) f
+bytesAfter f (cutTail s) = take (length f - length s) f
+
+-- an accepted call: a seal raises the last used number by one and alters no byte, a check alters nothing
+unfoldable pub taken : Machine → Call → Machine
+taken m (edit e) = record { bytes = bytesAfter (m .bytes) e; last = m .last }
+taken m (seal out) = record { bytes = m .bytes; last = m .last + 1 }
+taken m (check slip) = m
+
+-- a refused call alters nothing
+unfoldable pub step : Machine → Call → Machine
+step m c = cond (eqb (machineNumber m c) 0) (taken m c) m
+
+-- old or removed bytes are those that the machine holds at their places
+unfoldable pub Named : List ℕ → Edit → Type 0
+Named f (change p old new) = take (length old) (drop p f) ≡ old
+Named f (append s) = Unit {0}
+Named f (prepend s) = Unit {0}
+Named f (dropFront s) = take (length s) f ≡ s
+Named f (cutTail s) = drop (length f - length s) f ≡ s
+
+-- a call is true where it is refused or the bytes it names are there as it arrives
+unfoldable pub True : Machine → Call → Type 0
+True m (edit e) = machineNumber m (edit e) ≡ 0 → Named (m .bytes) e
+True m (seal out) = Unit {0}
+True m (check slip) = Unit {0}
+
+-- what the machine counts for a call: q + seek(k) + 1 for an accepted edit of at least one byte, else 0
+unfoldable pub callCount : Machine → Call → ℕ
+callCount m (edit e) = cond (eqb (machineNumber m (edit e)) 0) (countOf (kindOf e) (placeOf e) (length (given e)) (length (m .bytes))) 0
+callCount m (seal out) = 0
+callCount m (check slip) = 0
+
+-- q + 2b, b the width of the larger of the block counts before and after
+unfoldable pub countLimit : ℕ → Edit → ℕ
+countLimit n e =
+    touched (start (kindOf e) (placeOf e) (length (given e)) n) (length (given e))
+    + 2 * width (max (blocks n) (blocks (lengthAfter (kindOf e) (length (given e)) n)))

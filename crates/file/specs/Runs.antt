@@ -1,0 +1,97 @@
+-- A list of calls run by the editor and by the plain machine, in one fold (document 01, demand 3).
+-- Assumes nothing.
+use mathlib.Core.Path.{_≡_}
+use mathlib.Core.Bool.{cond}
+use mathlib.Core.List.{List, [], _∷_, _++_}
+use Prim.Native.Nat.{ℕ, zero, suc, _+_, _≤_}
+use lib.ListN.{length}
+use lib.Dec.{eqb}
+use Rattle.file.specs.declared.states.State.{State}
+use Rattle.file.specs.Edits.{Edit}
+use Rattle.file.specs.States.{edited, started, readFile}
+use Rattle.file.specs.Slips.{sealed, checkNumber, slipSeal}
+use Rattle.file.specs.Machine.{Call, edit, seal, check, Machine, blank, machineNumber, step, callCount, countLimit, True}
+
+-- the editor's side of a call, made of the definitions that the contracts cite
+unfoldable pub stateAfter : State → Call → State
+stateAfter st (edit e) = edited st e .state
+stateAfter st (seal out) = sealed st out .state
+stateAfter st (check slip) = st
+
+-- the number that the editor answers
+unfoldable pub answerOf : State → Call → ℕ
+answerOf st (edit e) = edited st e .number
+answerOf st (seal out) = sealed st out .number
+answerOf st (check slip) = checkNumber (st .n) slip
+
+-- the count that the editor reports
+unfoldable pub reported : State → Call → ℕ
+reported st (edit e) = edited st e .count
+reported st (seal out) = 0
+reported st (check slip) = 0
+
+-- the number on the slip that an accepted seal wrote
+unfoldable pub issued : State → Call → List ℕ
+issued st (edit e) = []
+issued st (seal out) = cond (eqb (sealed st out .number) 0) (slipSeal (sealed st out .slip) ∷ []) []
+issued st (check slip) = []
+
+-- a run: the editor's state and the machine, what the editor answered and reported and the numbers on its slips, and what the machine
+-- alone answers and counts
+pub record Run : Type 0 where
+  pub state : State
+  pub machine : Machine
+  pub answers : List ℕ
+  pub expected : List ℕ
+  pub total : ℕ
+  pub owed : ℕ
+  pub numbers : List ℕ
+
+-- before the first call
+unfoldable pub begun : State → Machine → Run
+begun st m = record { state = st; machine = m; answers = []; expected = []; total = 0; owed = 0; numbers = [] }
+
+-- one call more
+unfoldable pub further : Run → Call → Run
+further r c =
+    record {
+      state = stateAfter (r .state) c;
+      machine = step (r .machine) c;
+      answers = r .answers ++ (answerOf (r .state) c ∷ []);
+      expected = r .expected ++ (machineNumber (r .machine) c ∷ []);
+      total = r .total + reported (r .state) c;
+      owed = r .owed + callCount (r .machine) c;
+      numbers = r .numbers ++ issued (r .state) c;
+    }
+
+-- the whole list
+unfoldable pub run : Run → List Call → Run
+run r [] = r
+run r (c ∷ cs) = run (further r c) cs
+
+-- every call is true as it arrives
+unfoldable pub AllTrue : Machine → List Call → Type 0
+AllTrue m [] = Unit {0}
+AllTrue m (c ∷ cs) = True m c × AllTrue (step m c) cs
+
+-- an edit reports no more than q + 2b
+unfoldable pub Within : Run → Call → Type 0
+Within r (edit e) = reported (r .state) (edit e) ≤ countLimit (length (r .machine .bytes)) e
+Within r (seal out) = Unit {0}
+Within r (check slip) = Unit {0}
+
+unfoldable pub AllWithin : Run → List Call → Type 0
+AllWithin r [] = Unit {0}
+AllWithin r (c ∷ cs) = Within r c × AllWithin (further r c) cs
+
+-- a, a + 1, .., of which there are k
+unfoldable pub upFrom : ℕ → ℕ → List ℕ
+upFrom a zero = []
+upFrom a (suc k) = a ∷ upFrom (a + 1) k
+
+-- the run of a list from an accepted start, and from an accepted read
+unfoldable pub fromStart : (key : List ℕ) (arm last n : ℕ) → List Call → Run
+fromStart key arm last n calls = run (begun (started key arm last n .state) (blank n last)) calls
+
+unfoldable pub fromRead : (key : List ℕ) (arm last : ℕ) (file : List ℕ) → List Call → Run
+fromRead key arm last file calls = run (begun (readFile key arm last file .state) (record { bytes = file; last = last })) calls

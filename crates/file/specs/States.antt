@@ -1,0 +1,88 @@
+-- Start, read and the edits for all inputs (document 01, "The file and its five edits"), over the state's fields.
+-- Assumes nothing.
+use mathlib.Core.Bool.{cond}
+use mathlib.Core.List.{List}
+use Prim.Native.Nat.{ℕ}
+use lib.Dec.{eqb, leb}
+use lib.ListN.{length, replicate}
+use Rattle.cipher.specs.Aes.{keyFits}
+use Rattle.field.specs.declared.blocks.Block.{Block}
+use Rattle.field.specs.Field.{nil, companion, sum, limit}
+use Rattle.file.specs.declared.states.State.{State}
+use Rattle.file.specs.declared.states.Edited.{Edited}
+use Rattle.file.specs.Causes.{outcomeNumber, outcomeCount}
+use Rattle.file.specs.Tags.{hashKey}
+use Rattle.file.specs.declared.geometry.Kind.{Kind}
+use Rattle.file.specs.Edits.{Edit, kindOf, placeOf, given, replacing, refusalFor, start, lengthAfter, exponent, countOf}
+use Rattle.file.specs.Table.{placedSum, newSum}
+
+-- what a call on a state answers, in document 01's numbers: the state afterwards, the refusal's number or 0, and the count reported
+pub record StateAnswer : Type 0 where
+  pub state : State
+  pub number : ℕ
+  pub count : ℕ
+
+-- a crate's answer read so
+abbrev pub stateAnswer : Edited → StateAnswer
+stateAnswer r = record { state = r .state; number = outcomeNumber (r .outcome); count = outcomeCount (r .outcome) }
+
+abbrev pub refused : State → ℕ → StateAnswer
+refused st number = record { state = st; number = number; count = 0 }
+
+abbrev pub accepted : State → ℕ → StateAnswer
+accepted st count = record { state = st; number = 0; count = count }
+
+-- the state of all zeros, which a refused start or read gives
+unfoldable pub zeroState : State
+zeroState =
+    record {
+      key = record { bytes = replicate 16 0 };
+      h = record { hi = 0; lo = 0 };
+      i = record { hi = 0; lo = 0 };
+      s = record { hi = 0; lo = 0 };
+      n = 0;
+      arm = 0;
+      last = 0;
+    }
+
+-- the state for a key, with a sum and a length
+unfoldable pub stateOf : (key : List ℕ) (s : Block) (n arm last : ℕ) → State
+stateOf key s n arm last =
+    record { key = record { bytes = key }; h = hashKey key; i = companion (hashKey key); s = s; n = n; arm = arm; last = last }
+
+-- a state with its sum and length replaced
+unfoldable pub moved : State → Block → ℕ → State
+moved st s n = record { key = st .key; h = st .h; i = st .i; s = s; n = n; arm = st .arm; last = st .last }
+
+-- start: refused with 1 and 2 in that order, else n zero bytes with S = 0
+unfoldable pub started : (key : List ℕ) (arm last n : ℕ) → StateAnswer
+started key arm last n =
+    cond (keyFits key) (cond (leb n limit) (accepted (stateOf key nil n arm last) 0) (refused zeroState 2)) (refused zeroState 1)
+
+-- read: the same for a lent file, with S that file's sum
+unfoldable pub readFile : (key : List ℕ) (arm last : ℕ) (file : List ℕ) → StateAnswer
+readFile key arm last file =
+    cond (keyFits key)
+    (cond (leb (length file) limit) (accepted (stateOf key (sum (hashKey key) file) (length file) arm last) 0) (refused zeroState 2))
+    (refused zeroState 1)
+
+-- the sum of a state after an edit of at least one byte: document 01's table over the state's fields
+unfoldable pub sumAfter : State → Kind → (p : ℕ) (a b : List ℕ) → Block
+sumAfter st kind p a b =
+    newSum kind (st .h) (st .i) (st .s) (placedSum (st .h) (start kind p (length a) (st .n)) a b) (exponent kind p (length a) (st .n))
+
+-- an edit of a kind, at p, with given bytes a and of a change new bytes b: refused, or accepted; one of no bytes changes nothing
+unfoldable pub editedBy : State → Kind → (p : ℕ) (a b : List ℕ) → StateAnswer
+editedBy st kind p a b =
+    cond (eqb (refusalFor kind p (length a) (length b) (st .n)) 0)
+    (cond (eqb (length a) 0) (accepted st 0)
+    (accepted (moved st (sumAfter st kind p a b) (lengthAfter kind (length a) (st .n))) (countOf kind p (length a) (st .n))))
+    (refused st (refusalFor kind p (length a) (length b) (st .n)))
+
+-- the refusal of an edit at a length, or 0
+unfoldable pub refusalOf : ℕ → Edit → ℕ
+refusalOf n e = refusalFor (kindOf e) (placeOf e) (length (given e)) (length (replacing e)) n
+
+-- an edit, for all five kinds
+unfoldable pub edited : State → Edit → StateAnswer
+edited st e = editedBy st (kindOf e) (placeOf e) (given e) (replacing e)

@@ -1,0 +1,20 @@
+-- Document 01's table of edits, row by row: the new sum from S, W, H, I and k.
+-- Assumes nothing.
+use mathlib.Core.List.{List, _++_}
+use Prim.Native.Nat.{ℕ, _%_}
+use lib.ListN.{replicate}
+use Rattle.file.specs.declared.geometry.Kind.{Kind}
+use Rattle.file.specs.declared.geometry.Kind.the-variants.{Change, Append, Prepend, DropFront, CutTail}
+use Rattle.field.specs.declared.blocks.Block.{Block}
+use Rattle.field.specs.Field.{_⊕_, _•_, power, sum, xorBytes}
+
+-- W: the sum of the given bytes, of a change old + new, at their places in zeroed blocks, counted to the last touched block
+unfoldable pub placedSum : Block → (at : ℕ) → (given replacing : List ℕ) → Block
+placedSum h at given replacing = sum h (replicate (at % 16) 0 ++ xorBytes given replacing)
+
+unfoldable pub newSum : Kind → (h i s w : Block) → ℕ → Block
+newSum Change h i s w k = s ⊕ w • power h k
+newSum Append h i s w k = s • power h k ⊕ w
+newSum Prepend h i s w k = s ⊕ w • power h k
+newSum DropFront h i s w k = s ⊕ w • power h k
+newSum CutTail h i s w k = (s ⊕ w) • power i k

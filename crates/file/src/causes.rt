@@ -1,0 +1,49 @@
+// Why a call is refused. Document 01's numbers for the causes are in specs/Causes.
+ghost use mathlib.Core.Path.{_≡_};
+ghost use Rattle.file.specs.Causes.{causeNumber};
+
+pub enum Cause {
+    // The key is not a key.
+    KeyLength,
+    // File, A or nonce passes 2^61 - 1 bytes, or would.
+    TooLong,
+    // The bytes named don't all lie in the file.
+    OutOfFile,
+    // Old and new differ in length.
+    UnequalPair,
+    // Prepend or drop-front of a length that is no multiple of 16.
+    BrokenBlock,
+    // The last used seal number is the last there is.
+    NumbersUsed,
+    // The slip is not 36 bytes, or the tag's output not 16.
+    OutputLength,
+    // The slip's version is not 1.
+    SlipVersion,
+    // The nonce is empty.
+    EmptyNonce,
+}
+
+impl Cause {
+    // Document 01's number of a cause. It serves the layers above.
+    pub fn number(self) -> u64
+        ensures { λ r. ⌜ r ≡ causeNumber self ⌝ }
+    {
+        match self {
+            Cause::KeyLength => 1,
+            Cause::TooLong => 2,
+            Cause::OutOfFile => 3,
+            Cause::UnequalPair => 4,
+            Cause::BrokenBlock => 5,
+            Cause::NumbersUsed => 6,
+            Cause::OutputLength => 7,
+            Cause::SlipVersion => 8,
+            Cause::EmptyNonce => 9,
+        }
+    }
+}
+
+// What a call or a test answers that hands back no value.
+pub enum Answer {
+    Done,
+    Refused(Cause),
+}

@@ -1,0 +1,130 @@
+// Seal and check.
+use super::causes::Answer;
+use super::causes::Cause;
+use super::slips::Fields;
+use super::slips::Opened;
+use super::slips::Verdict;
+use super::slips::open;
+use super::slips::write;
+use super::states::State;
+use super::tags::tag;
+use field::Block;
+use field::hashing::LIMIT;
+use field::packing::store;
+ghost use mathlib.Core.Path.{_≡_};
+ghost use mathlib.Core.Bool.{false};
+ghost use Prim.Native.Nat.{_≤_};
+ghost use lib.Dec.{eqb};
+ghost use Rattle.field.specs.Field.{limit, value};
+ghost use Rattle.file.specs.Causes.{verdictNumber, isGenuine};
+ghost use Rattle.file.specs.Slips.{sealAnswer, sealed, checkNumber, genuine, stateTag, openedOf};
+
+// A state beside what seal answered.
+pub struct Sealed {
+    pub state: State,
+    pub answer: Answer,
+}
+
+impl State {
+    // Seals the file: the last used number rises by one, and the slip gets the new one and the file's tag under it. Refused, in this
+    // order, where the state's length passes 2^61 - 1, where the slip is not 36 bytes and where no number is left; state and slip then
+    // stay as they were.
+    pub fn seal(mut self, slip: &mut [u8]) -> Sealed
+        ensures { λ r. ⌜ sealAnswer r (now (slip .exit)) ≡ sealed self (now (slip .entry)) ⌝ }
+    {
+        if self.n > LIMIT as u64 {
+            return Sealed {
+                state: self,
+                answer: Answer::Refused(Cause::TooLong),
+            };
+        }
+        if slip.len() != 36 {
+            return Sealed {
+                state: self,
+                answer: Answer::Refused(Cause::OutputLength),
+            };
+        }
+        if self.last == u64::MAX {
+            return Sealed {
+                state: self,
+                answer: Answer::Refused(Cause::NumbersUsed),
+            };
+        }
+        let number = self.last + 1;
+        let tag = self.tag_under(self.arm, number);
+        write(
+            slip,
+            Fields {
+                length: self.n,
+                arm: self.arm,
+                number,
+                tag,
+            },
+        );
+        self.last = number;
+        Sealed {
+            state: self,
+            answer: Answer::Done,
+        }
+    }
+
+    // Whether a slip is of the file: its length and arm are the state's, and its tag is the file's under its own nonce. Refused, in this
+    // order, where the state's length passes 2^61 - 1, where the slip is not 36 bytes and where its version is not 1. The tags
+    // are compared by one test of all their bits.
+    pub fn check(self, slip: &[u8]) -> Verdict
+        ensures { λ r. ⌜ (verdictNumber r ≡ checkNumber (self .n) (now (slip .entry))) × (isGenuine r ≡ genuine self (now (slip .entry))) ⌝ }
+    {
+        if self.n > LIMIT as u64 {
+            return Verdict::Refused(Cause::TooLong);
+        }
+        let o = open(slip);
+        let Opened::Slip(f) = o else {
+            return refusal(o);
+        };
+        if f.length != self.n {
+            return Verdict::NotGenuine;
+        }
+        if f.arm != self.arm {
+            return Verdict::NotGenuine;
+        }
+        let given = f.tag;
+        if same(given, self.tag_under(f.arm, f.number)) {
+            Verdict::Genuine
+        } else {
+            Verdict::NotGenuine
+        }
+    }
+
+    // The state's tag under the nonce of an arm and a seal number, most significant byte first. The requires: the number of the file's
+    // bits fits a word.
+    fn tag_under(self, arm: u32, number: u64) -> Block
+        requires { ⌜ self .n ≤ limit ⌝ }
+        ensures { λ r. ⌜ r ≡ stateTag self arm number ⌝ }
+    {
+        let mut nonce = [0u8; 12];
+        store(&mut nonce, 0, 4, arm as u64);
+        store(&mut nonce, 4, 8, number);
+        let key = self.key;
+        let h = self.h;
+        let s = self.s;
+        tag(key, h, s, self.n, &nonce)
+    }
+}
+
+// Whether two blocks are the same, by one comparison.
+fn same(a: Block, b: Block) -> bool
+    ensures { λ r. ⌜ r ≡ eqb (value a) (value b) ⌝ }
+{
+    let differ = (a.hi ^ b.hi) | (a.lo ^ b.lo);
+    differ == 0
+}
+
+// The refusal of a slip that did not open.
+fn refusal(o: Opened) -> Verdict
+    ensures { λ r. ⌜ (verdictNumber r ≡ openedOf o .number) × (isGenuine r ≡ false) ⌝ }
+{
+    match o {
+        Opened::Refused(cause) => Verdict::Refused(cause),
+        Opened::Slip(_) => Verdict::NotGenuine,
+    }
+}
