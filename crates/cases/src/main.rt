@@ -1,0 +1,72 @@
+// The bench cases of document 01 that are no theorems: each line names a case and prints the refusal's number, 0 where it was accepted.
+use file::State;
+use file::causes::Answer;
+use file::states::Edited;
+use file::states::Outcome;
+use libc::STDOUT_FILENO;
+
+fn main() {
+    edits();
+    starts();
+    seals();
+}
+
+// Edits of a file of 40 bytes.
+fn edits() {
+    let st = State::start(b"a key for arm 7.", 7, 0, 40).state;
+    print_edit(b"change of 0 bytes at 40 of 40", st.change(40, b"", b""));
+    print_edit(b"change of 0 bytes at 41 of 40", st.change(41, b"", b""));
+    print_edit(b"prepend 15", st.prepend(b"fifteen bytes.."));
+    print_edit(
+        b"change with an unequal pair past the end",
+        st.change(41, b"ab", b"abc"),
+    );
+}
+
+// Starts about the largest length.
+fn starts() {
+    let key = b"a key for arm 7.";
+    print_edit(
+        b"start with 2^61 bytes",
+        State::start(key, 7, 0, 0x2000_0000_0000_0000),
+    );
+    print_edit(
+        b"start with 2^61 - 1 bytes",
+        State::start(key, 7, 0, 0x1fff_ffff_ffff_ffff),
+    );
+}
+
+// The last two seal numbers.
+fn seals() {
+    let near = State::start(b"a key for arm 7.", 7, 0xffff_ffff_ffff_fffe, 40).state;
+    let mut slip = [0u8; 36];
+    let once = near.seal(&mut slip);
+    let st = once.state;
+    let first = once.answer;
+    print_answer(b"seal after 2^64 - 2", first);
+    let twice = st.seal(&mut slip);
+    let second = twice.answer;
+    print_answer(b"seal after 2^64 - 1", second);
+}
+
+fn print_edit(name: &[u8], edited: Edited) {
+    let outcome = edited.outcome;
+    match outcome {
+        Outcome::Done(_) => print_number(name, 0),
+        Outcome::Refused(cause) => print_number(name, cause.number()),
+    }
+}
+
+fn print_answer(name: &[u8], answer: Answer) {
+    match answer {
+        Answer::Done => print_number(name, 0),
+        Answer::Refused(cause) => print_number(name, cause.number()),
+    }
+}
+
+fn print_number(name: &[u8], number: u64) {
+    io::write_all(STDOUT_FILENO, name);
+    io::write_all(STDOUT_FILENO, b": ");
+    io::print_decimal(STDOUT_FILENO, number);
+    io::write_all(STDOUT_FILENO, b"\n");
+}

@@ -1,0 +1,47 @@
+//! What the demo program must print, made again by the plain machine, which
+//! holds the bytes themselves. The program is run, and its output held to
+//! crates/demo/stdout, by the toolchain's own check.
+
+use reference::machine::Machine;
+
+fn hex(bytes: &[u8]) -> String {
+    bytes.iter().map(|b| format!("{b:02x}")).collect()
+}
+
+fn step(text: &mut String, name: &str, machine: &Machine, count: u64) {
+    let sum = hex(&machine.sum());
+    let n = machine.n();
+    text.push_str(&format!("{name}: length {n}, sum {sum}, count {count}\n"));
+}
+
+#[test]
+fn the_demo_prints_what_the_machine_says() {
+    let key = b"a key for arm 7.";
+    let mut text = String::new();
+    let mut machine = Machine::start(key, 7, 0, 40).unwrap();
+    step(&mut text, "start with 40 bytes", &machine, 0);
+    let count = machine.change(15, &[0; 3], b"new").unwrap();
+    step(&mut text, "change bytes 15 to 17", &machine, count);
+    let count = machine.append(b"gripper A").unwrap();
+    step(&mut text, "append 9 bytes", &machine, count);
+    let count = machine.prepend(b"motion file head").unwrap();
+    step(&mut text, "prepend 16 bytes", &machine, count);
+    let count = machine.cut_tail(b"er A").unwrap();
+    step(&mut text, "cut 4 bytes", &machine, count);
+    let mut slip = [0; 36];
+    machine.seal(&mut slip).unwrap();
+    text.push_str(&format!("seal: slip {}\n", hex(&slip)));
+
+    let mut card = machine.bytes.clone();
+    for (name, verdict) in [
+        ("check after reading the card", "genuine"),
+        ("check with one bit flipped", "not genuine"),
+    ] {
+        let restarted = Machine::read(key, 7, 1, &card).unwrap();
+        step(&mut text, "read the card", &restarted, 0);
+        assert_eq!(restarted.check(&slip).unwrap(), verdict == "genuine");
+        text.push_str(&format!("{name}: {verdict}\n"));
+        card[40] ^= 1;
+    }
+    assert_eq!(text, include_str!("../../../../crates/demo/stdout"));
+}
