@@ -1,5 +1,5 @@
 -- The field's laws, from the bottom up. The layers above use those of Values, Ring, Powers, Frobenius, Bytes, XorBytes, BlockAt,
--- Horner, Sums, Hash, Stream, Steps and Cases; the others serve these or this crate's functions.
+-- Horner, Sums, Hash, Stream, Steps, Cases and Packed; the others serve these or this crate's functions.
 pub mod Commutative
 pub mod Xor
 pub mod Span

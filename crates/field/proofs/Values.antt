@@ -52,6 +52,10 @@ pub value-nil : value nil ≡ 0
 unfolding nil
 value-nil = value-block 0 (pow-pos 128)
 
+-- the zero block's words, as code writes them
+pub nil-words : words 0 0 ≡ nil
+nil-words = block-words 0 0 (pow-pos 64) ∙ ap block (sym value-nil) ∙ block-value nil small-nil
+
 pub value-one : value one ≡ 2 ^ 127
 unfolding one
 value-one = value-block (2 ^ 127) (lit< tt)

@@ -1,4 +1,5 @@
--- Document 01's refusals read backwards: what holds of an edit's place and lengths where it is accepted (`accepted`).
+-- Document 01's refusals read backwards: what holds of an edit's place and lengths where it is accepted (`accepted`), the law of the editor
+-- and of the code that measures an edit alike.
 -- Rests on the definitions of specs/Edits.
 -- Assumes nothing.
 use mathlib.Core.Path.{_≡_, refl}
@@ -53,3 +54,7 @@ unfolding refusalFor
 accepted kind p l r n e =
     let a = refuses-true (ltb limit n) 1 e in
     record { bounded = ltb-false limit n (a .0); fits = fitting kind p l r n (a .1) }
+
+-- the same of an edit that is of a kind
+pub accepted-as : {kind : Kind} (k : Kind) (p l r n : ℕ) → kind ≡ k → refusalFor kind p l r n ≡ 0 → Accepted k p l r n
+accepted-as k p l r n q e = accepted k p l r n (rw q at e)

@@ -1,5 +1,5 @@
 -- The edits, one law for each return: the table's rows as factors, the new sum and count, and the answer of an edit. They rest on the laws
--- of lengths (`ShapeLaws`) and on Horner's rule and the ring's laws of the field.
+-- of lengths (`Accepted`, `ShapeLaws`) and on Horner's rule and the ring's laws of the field.
 -- Assumes nothing.
 use mathlib.Core.Path.{_≡_, sym, ap, ap₂, _∙_}
 use mathlib.Core.Logic.{_⊎_, inl, inr}
@@ -11,6 +11,7 @@ use borrow.Author.Tests.{eq-eqb, ne-eqb}
 use Rattle.field.specs.declared.blocks.Block.{Block}
 use Rattle.field.specs.declared.multiplying.Counted.{Counted}
 use Rattle.field.specs.Field.{_⊕_, _•_, power, steps, blocks, sum, xorBytes, Yᵢ, counted}
+use Rattle.field.proofs.Values.{words, nil-words}
 use Rattle.field.proofs.Ring.{⊕-comm, ⊕-nil, small-•}
 use Rattle.field.proofs.Horner.{horner, blocks-value}
 use Rattle.field.proofs.XorBytes.{length-xor-max}
@@ -27,8 +28,8 @@ use Rattle.file.specs.Causes.{causeNumber}
 use Rattle.file.specs.Edits.{Geometry, geometry, geometryOf, refusalFor, start, lengthAfter, touched, exponent, countOf}
 use Rattle.file.specs.Table.{placedSum, newSum}
 use Rattle.file.specs.States.{accepted, refused, moved, sumAfter, editedBy}
-use Rattle.file.proofs.ZeroBlock.{zero-block, zero-is}
-use Rattle.file.proofs.ShapeLaws.{accepted-as, reach, touched-blocks, cause-pos, geometry-number, geometry-fits}
+use Rattle.file.proofs.Accepted.{accepted-as}
+use Rattle.file.proofs.ShapeLaws.{reach, touched-blocks, cause-pos, geometry-number, geometry-fits}
 
 -- ---- the table's rows as factors
 
@@ -49,21 +50,21 @@ module _ {kind : Kind} (h i s w : Block) where
   unfolding newSum
   factors-drop q k = rw q (⊕-comm (w • power h k) s)
 
-  pub factors-cut : {y : Block} → kind ≡ CutTail → y ≡ s ⊕ w → (k : ℕ) → y • power i k ⊕ zero-block ≡ newSum kind h i s w k
+  pub factors-cut : {y : Block} → kind ≡ CutTail → y ≡ s ⊕ w → (k : ℕ) → y • power i k ⊕ words 0 0 ≡ newSum kind h i s w k
   unfolding newSum
-  factors-cut q e k = rw (q, e, zero-is) (⊕-nil ((s ⊕ w) • power i k) (small-• (s ⊕ w) (power i k)))
+  factors-cut q e k = rw (q, e, nil-words) (⊕-nil ((s ⊕ w) • power i k) (small-• (s ⊕ w) (power i k)))
 
 -- ---- the new sum and the count
 
 -- w is what the fold over the placed bytes gives, f the factors of w, t their product with a power, and r the new sum
 pub moved-sum : (kind : Kind) (h i s : Block) (placed : List ℕ) (q k : ℕ) (f : Factors) {w t : Counted} {r : Block}
-    → q ≡ blocks (length placed) → w ≡ counted (Yᵢ h zero-block placed q) (0 + q)
+    → q ≡ blocks (length placed) → w ≡ counted (Yᵢ h (words 0 0) placed q) (0 + q)
     → ((j : ℕ) → f .x • power (f .base) j ⊕ f .added ≡ newSum kind h i s (w .value) j)
     → t ≡ counted (f .x • power (f .base) k) (w .count + steps k + 1) → r ≡ t .value ⊕ f .added
     → r ≡ newSum kind h i s (sum h placed) k
 moved-sum kind h i s placed q k f {w} eq ew ef et er =
     let all : w .value ≡ sum h placed =
-    ap (λ (c : Counted). c .value) ew ∙ ap₂ (λ (z : Block) (j : ℕ). Yᵢ h z placed j) zero-is eq ∙ horner h placed in
+    ap (λ (c : Counted). c .value) ew ∙ ap₂ (λ (z : Block) (j : ℕ). Yᵢ h z placed j) nil-words eq ∙ horner h placed in
     er ∙ ap (λ (c : Counted). c .value ⊕ f .added) et ∙ ef k ∙ ap (λ (v : Block). newSum kind h i s v k) all
 
 -- the running count, of the fold and then of the product with a power

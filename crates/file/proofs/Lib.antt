@@ -1,5 +1,4 @@
 -- The file keeper's laws, from the bottom up: edits (lengths, sums, cases of the code), tags, slips, seal and check, and the demands.
-pub mod ZeroBlock
 pub mod Accepted
 pub mod Placed
 pub mod EditSums

@@ -120,7 +120,7 @@ opening-number slip = flag (eqb (openNumber slip) 0) refl
 
 -- and where that is 0, its fields
 opening-fields : (slip : List ℕ) → openNumber slip ≡ 0
-    → opening slip ≡ record { number = 0; length = slipLength slip; arm = slipArm slip; seal = slipSeal slip; tag = slipTag slip }
+    → opening slip ≡ record { number = 0; count = slipLength slip; arm = slipArm slip; seal = slipSeal slip; tag = slipTag slip }
 unfolding opening
 opening-fields slip e = simp (eq-eqb _ _ e)
 
@@ -139,7 +139,7 @@ opens {slip} {o} {f} e is =
     let all = sym (first ∙ opening-fields slip zero) in
     record {
       accepted = zero;
-      count = ap (λ (x : SlipFields). x .length) all;
+      count = ap (λ (x : SlipFields). x .count) all;
       arm-is = ap (λ (x : SlipFields). x .arm) all;
       seal-is = ap (λ (x : SlipFields). x .seal) all;
       tag-is = ap (λ (x : SlipFields). x .tag) all;

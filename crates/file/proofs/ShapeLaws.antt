@@ -1,13 +1,13 @@
--- What an edit does to lengths (`specs/Edits`): one law for each return of the functions that measure it, what an accepted edit's lengths
--- satisfy, and what its shape is. They rest on the law of how many blocks bytes fill (field's `Horner`).
+-- What an edit does to lengths (`specs/Edits`): one law for each return of the functions that measure it, and what an accepted edit's shape
+-- is. They rest on the refusals read backwards (`Accepted`) and on the law of how many blocks bytes fill (field's `Horner`).
 -- Assumes nothing.
 use mathlib.Core.Path.{_≡_, refl, sym, ap, _∙_}
 use mathlib.Core.Bool.{Bool, true, false, cond}
-use Prim.Native.Nat.{ℕ, suc, _+_, _-_, _/_, _%_, _≤_, _<_}
+use Prim.Native.Nat.{ℕ, _+_, _-_, _/_, _%_, _≤_, _<_}
 use native.Mathlib.Nat.{zero-add}
 use native.Mathlib.Omega.{arith}
 use lib.Dec.{eqb, ltb}
-use borrow.Author.Tests.{ltb-false, eqb-true, lt-ltb, le-ltb, eq-eqb, ne-eqb}
+use borrow.Author.Tests.{eqb-true, lt-ltb, le-ltb, eq-eqb, ne-eqb}
 use Rattle.field.specs.Field.{blocks, limit}
 use Rattle.field.proofs.Horner.{blocks-value}
 use Rattle.file.specs.declared.causes.Cause.{Cause}
@@ -21,6 +21,7 @@ use Rattle.file.specs.declared.causes.Answer.{Answer}
 use Rattle.file.specs.declared.causes.Answer.the-variants as answer
 use Rattle.file.specs.Causes.{causeNumber, answerNumber}
 use Rattle.file.specs.Edits.{editNumber, refusalFor, start, lengthAfter, touched, exponent, Geometry, geometry, geometryOf}
+use Rattle.file.proofs.Accepted.{accepted}
 
 -- ---- the returns of `within` and `room`
 
@@ -71,51 +72,10 @@ module _ (kind : Kind) (p l r n : ℕ) (a : n ≤ limit) where
 
 -- ---- accepted edits
 
--- where a choice gives 0, and its one side doesn't, the other does
-second : (t : Bool) (k : ℕ) {x : ℕ} → cond t (suc k) x ≡ 0 → (t ≡ false) × (x ≡ 0)
-second true k e = absurd (omega arith)
-second false k e = (refl, e)
-
-first : (t : Bool) (k : ℕ) {x : ℕ} → cond t x (suc k) ≡ 0 → (t ≡ true) × (x ≡ 0)
-first true k e = (refl, e)
-first false k e = absurd (omega arith)
-
--- what the lengths of an accepted edit of each kind satisfy
-abbrev pub Room : Kind → (p l r n : ℕ) → Type 0
-Room Change p l r n = (l ≡ r) × (p + l ≤ n)
-Room Append p l r n = n + l ≤ limit
-Room Prepend p l r n = (l % 16 ≡ 0) × (n + l ≤ limit)
-Room DropFront p l r n = (l % 16 ≡ 0) × (l ≤ n)
-Room CutTail p l r n = l ≤ n
-
-accepted-room : (kind : Kind) (p l r n : ℕ) → editNumber kind p l r n ≡ 0 → Room kind p l r n
-unfolding editNumber
-accepted-room Change p l r n e =
-    let f = first (eqb l r) 3 e in
-    (eqb-true l r (f .0), ltb-false n (p + l) (second (ltb n (p + l)) 2 (f .1) .0))
-accepted-room Append p l r n e = ltb-false limit (n + l) (second (ltb limit (n + l)) 1 e .0)
-accepted-room Prepend p l r n e =
-    let f = first (eqb (l % 16) 0) 4 e in
-    (eqb-true (l % 16) 0 (f .0), ltb-false limit (n + l) (second (ltb limit (n + l)) 1 (f .1) .0))
-accepted-room DropFront p l r n e =
-    let f = first (eqb (l % 16) 0) 4 e in
-    (eqb-true (l % 16) 0 (f .0), ltb-false n l (second (ltb n l) 2 (f .1) .0))
-accepted-room CutTail p l r n e = ltb-false n l (second (ltb n l) 2 e .0)
-
-pub accepted : (kind : Kind) (p l r n : ℕ) → refusalFor kind p l r n ≡ 0 → (n ≤ limit) × Room kind p l r n
-unfolding refusalFor
-accepted kind p l r n e =
-    let f = second (ltb limit n) 1 e in
-    (ltb-false limit n (f .0), accepted-room kind p l r n (f .1))
-
--- the same of an edit that is of a kind
-pub accepted-as : {kind : Kind} (k : Kind) (p l r n : ℕ) → kind ≡ k → refusalFor kind p l r n ≡ 0 → (n ≤ limit) × Room k p l r n
-accepted-as k p l r n q e = accepted k p l r n (rw q at e)
-
 -- an accepted edit's new bytes may be taken to be as many as those given
 pub same-length : (kind : Kind) (p l r n : ℕ) → refusalFor kind p l r n ≡ 0 → refusalFor kind p l l n ≡ 0
 unfolding refusalFor editNumber
-same-length Change p l r n e = ap (λ (x : ℕ). refusalFor Change p l x n) (accepted Change p l r n e .1 .0) ∙ e
+same-length Change p l r n e = ap (λ (x : ℕ). refusalFor Change p l x n) (accepted Change p l r n e .fits .0) ∙ e
 same-length Append p l r n e = e
 same-length Prepend p l r n e = e
 same-length DropFront p l r n e = e

@@ -142,7 +142,7 @@ module _ (slip : List ℕ) where
   pub open-done : {head arm seal hi lo : ℕ} {tag : Block} → length slip ≡ 36 → head ≡ number slip 0 8 → head / 2 ^ 61 ≡ 1
       → arm ≡ number slip 8 4 → seal ≡ number slip 12 8 → hi ≡ number slip 20 8 → lo ≡ number slip 28 8
       → tag ≡ block (hi * 2 ^ 64 + lo)
-      → _≡_ {A = SlipFields} (record { number = 0; length = head % 2 ^ 61; arm = arm; seal = seal; tag = value tag }) (opening slip)
+      → _≡_ {A = SlipFields} (record { number = 0; count = head % 2 ^ 61; arm = arm; seal = seal; tag = value tag }) (opening slip)
   unfolding opening openNumber
   open-done {head} {arm} {seal} {hi} {lo} {tag} x e y ea es eh el et =
       let p = slip-parts slip in
@@ -158,7 +158,7 @@ module _ (slip : List ℕ) where
       simp (eq-eqb _ _ x, eq-eqb _ _ z)
       (λ i. record {
         number = 0;
-        length = (ap (λ (w : ℕ). w % 2 ^ 61) e ∙ sym (p .count)) i;
+        count = (ap (λ (w : ℕ). w % 2 ^ 61) e ∙ sym (p .count)) i;
         arm = (ea ∙ sym (p .arm-is)) i;
         seal = (es ∙ sym (p .seal-is)) i;
         tag = t i;

@@ -9,10 +9,10 @@ use Rattle.cipher.specs.declared.keys.Key.{Key}
 use Rattle.cipher.specs.Aes.{keyFits}
 use Rattle.field.specs.declared.blocks.Block.{Block}
 use Rattle.field.specs.Field.{companion, sum, limit}
+use Rattle.field.proofs.Values.{words, nil-words}
 use Rattle.file.specs.declared.states.State.{State}
 use Rattle.file.specs.Tags.{hashKey}
 use Rattle.file.specs.States.{StateAnswer, accepted, refused, zeroState, stateOf, started, readFile}
-use Rattle.file.proofs.ZeroBlock.{zero-block, zero-is}
 
 -- the state of a key, from its hash key and that one's companion
 pub holding : (key : Key) (s : Block) (n arm last : ℕ) {h i : Block} → h ≡ hashKey (key .bytes) → i ≡ companion h
@@ -30,12 +30,12 @@ module _ (key : List ℕ) (arm last n : ℕ) where
   start-long f g e = simp (f, lt-leb _ _ g) e
 
   -- k is the key that was read, and st the state made of it
-  pub start-done : (k : Key) {st : State} → keyFits key ≡ true → n ≤ limit → k .bytes ≡ key → st ≡ stateOf (k .bytes) zero-block n arm last
+  pub start-done : (k : Key) {st : State} → keyFits key ≡ true → n ≤ limit → k .bytes ≡ key → st ≡ stateOf (k .bytes) (words 0 0) n arm last
       → accepted st 0 ≡ started key arm last n
   unfolding started
   start-done k f g ek e =
       simp (f, le-leb _ _ g)
-      (ap (λ (x : State). accepted x 0) (e ∙ ap₂ (λ (l : List ℕ) (z : Block). stateOf l z n arm last) ek zero-is))
+      (ap (λ (x : State). accepted x 0) (e ∙ ap₂ (λ (l : List ℕ) (z : Block). stateOf l z n arm last) ek nil-words))
 
 module _ (key : List ℕ) (arm last : ℕ) (file : List ℕ) where
   pub read-key : {x : StateAnswer} → keyFits key ≡ false → x ≡ refused zeroState 1 → x ≡ readFile key arm last file

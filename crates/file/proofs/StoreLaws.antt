@@ -1,25 +1,19 @@
 -- Numbers stored one behind the other from the front of a slice: what the stores leave is the numbers' bytes joined. They rest on the
--- field's law of the length of a number's bytes.
+-- field's laws of the length of a number's bytes (`Bytes`) and of two runs of stores (`Packed`).
 -- Assumes nothing.
 use mathlib.Core.Path.{_≡_, refl, sym, ap, ap₂, _∙_}
 use mathlib.Core.List.{List, [], _∷_, _++_, append-nil}
-use Prim.Native.Nat.{ℕ, suc, _+_, _<_, _≤_}
-use native.Mathlib.Nat.{add-zero, zero-add}
+use Prim.Native.Nat.{ℕ, _+_, _<_, _≤_}
+use native.Mathlib.Nat.{zero-add}
 use native.Mathlib.Numerals.{add-one}
 use native.Mathlib.Omega.{arith}
 use lib.ListN.{length, take, getD, set, length-append, length-set, drop-of-length-le}
 use lib.Seq.{sets, sets-eq, take-suc, take-suc-set, take-all}
 use Rattle.field.specs.Field.{bytes}
 use Rattle.field.proofs.Bytes.{length-bytes}
+use Rattle.field.proofs.Packed.{sets-append}
 
 -- ---- runs of stores
-
--- two runs, the second where the first ends, are one
-sets-append : (l : List ℕ) (i : ℕ) (vs ws : List ℕ) → sets (sets l i vs) (i + length vs) ws ≡ sets l i (vs ++ ws)
-sets-append l i [] ws = ap (λ (j : ℕ). sets l j ws) (add-zero i)
-sets-append l i (a ∷ vs) ws =
-    let e : i + suc (length vs) ≡ suc i + length vs = omega arith in
-    ap (λ (j : ℕ). sets (sets (set l i a) (suc i) vs) j ws) e ∙ sets-append (set l i a) (suc i) vs ws
 
 -- out has got p from the front, up to a place, and is now mid
 pub record Stored (out p : List ℕ) (at : ℕ) (mid : List ℕ) : Type 0 where

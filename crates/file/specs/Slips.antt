@@ -15,12 +15,12 @@ use Rattle.file.specs.Causes.{causeNumber, answerNumber}
 use Rattle.file.specs.Tags.{tagOf}
 
 -- a slip as one number, most significant first: version (3 bits), byte length (61), arm (32), seal number (64), tag (128)
-unfoldable pub slipValue : (version length arm number tag : ℕ) → ℕ
-slipValue version length arm number tag = (((version * 2 ^ 61 + length) * 2 ^ 32 + arm) * 2 ^ 64 + number) * 2 ^ 128 + tag
+unfoldable pub slipValue : (version n arm number tag : ℕ) → ℕ
+slipValue version n arm number tag = (((version * 2 ^ 61 + n) * 2 ^ 32 + arm) * 2 ^ 64 + number) * 2 ^ 128 + tag
 
 -- the 36 bytes of a slip of version 1
-unfoldable pub slipBytes : (length arm number tag : ℕ) → List ℕ
-slipBytes length arm number tag = bytes 36 (slipValue 1 length arm number tag)
+unfoldable pub slipBytes : (n arm number tag : ℕ) → List ℕ
+slipBytes n arm number tag = bytes 36 (slipValue 1 n arm number tag)
 
 -- the fields of 36 bytes
 unfoldable pub slipVersion : List ℕ → ℕ
@@ -53,24 +53,24 @@ openNumber slip = cond (eqb (length slip) 36) (cond (eqb (slipVersion slip) 1) 0
 -- what opening a slip answers: the refusal's number or 0, and the fields, zeros where it is refused
 pub record SlipFields : Type 0 where
   pub number : ℕ
-  pub length : ℕ
+  pub count : ℕ
   pub arm : ℕ
   pub seal : ℕ
   pub tag : ℕ
 
 abbrev pub refusedSlip : ℕ → SlipFields
-refusedSlip number = record { number = number; length = 0; arm = 0; seal = 0; tag = 0 }
+refusedSlip number = record { number = number; count = 0; arm = 0; seal = 0; tag = 0 }
 
 -- the crate's answer read so
 abbrev pub openedOf : Opened → SlipFields
-openedOf (opened.Slip f) = record { number = 0; length = f .length; arm = f .arm; seal = f .number; tag = value (f .tag) }
+openedOf (opened.Slip f) = record { number = 0; count = f .length; arm = f .arm; seal = f .number; tag = value (f .tag) }
 openedOf (opened.Refused c) = refusedSlip (causeNumber c)
 
 -- opening a slip, for all byte lists
 unfoldable pub opening : List ℕ → SlipFields
 opening slip =
     cond (eqb (openNumber slip) 0)
-    (record { number = 0; length = slipLength slip; arm = slipArm slip; seal = slipSeal slip; tag = slipTag slip })
+    (record { number = 0; count = slipLength slip; arm = slipArm slip; seal = slipSeal slip; tag = slipTag slip })
     (refusedSlip (openNumber slip))
 
 -- seal's number: 2 for the state's length before all else, then 7, then 6

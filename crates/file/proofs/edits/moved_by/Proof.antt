@@ -1,12 +1,25 @@
 -- `file::edits::moved_by` meets its contract. The fold is the sum of the placed bytes, and the running count has room
 -- (`EditCases`). Assumes nothing.
 use mathlib.Core.Path.{refl, ap}
+use mathlib.Core.List.{List, _++_}
+use Prim.Native.Nat.{ℕ, _+_}
 use native.Mathlib.Omega.{arith}
 use borrow.Author.Needs.{needs}
+use lib.ListN.{replicate}
+use Rattle.field.specs.declared.blocks.Block.{Block}
 use Rattle.field.specs.declared.multiplying.Counted.{Counted}
+use Rattle.field.specs.Field.{xorBytes, Yᵢ, counted}
+use Rattle.field.proofs.Values.{words}
 use Rattle.file.proofs.EditCases.{moved-sum, moved-count}
 use Rattle.file.proofs.edits.moved_by.Statement.{statement}
 use Rattle.file.proofs.edits.moved_by.Tie as tie
+
+-- the placed bytes, and what the fold over them gives
+abbrev placed : tie.Start → List ℕ
+placed s = replicate (s .args .shape .lead) 0 ++ xorBytes (s .args .a .now) (s .args .b .now)
+
+abbrev folded : tie.Start → Block
+folded s = Yᵢ (s .args .st .h) (words 0 0) (placed s) (s .args .shape .q)
 
 fold-requires : tie.Need-fold-requires
 fold-requires c κs = search needs
@@ -17,7 +30,9 @@ arranged-requires c κs = search needs
 times-power-requires : tie.Need-times-power-requires
 times-power-requires c κs =
     let fold = c .before .before .before .before in
-    omega (arith, ap (λ (r : Counted). r .count) (fold .fold .ensures), fold .before .before .before .before .pre)
+    let start = fold .before .before .before .before in
+    let q = start .args .shape .q in
+    omega (arith, ap (λ (r : Counted). r .count) {y = counted (folded start) (0 + q)} (fold .fold .ensures), start .pre)
 
 plus-requires : tie.Need-plus-requires
 plus-requires c κs = search needs
@@ -28,9 +43,9 @@ returns c =
     let row = times .before .before .before in
     let fold = row .before .before in
     let start = fold .before .before .before .before in (
-      moved-sum _ _ _ _ _ _ _ (row .arranged .result) (start .pre .0) (fold .fold .ensures) (row .arranged .ensures)
+      moved-sum _ _ _ _ (placed start) _ _ (row .arranged .result) (start .pre .0) (fold .fold .ensures) (row .arranged .ensures)
           (times .times-power .ensures) (c .plus .ensures),
-      (refl, moved-count _ _ (fold .fold .ensures) (times .times-power .ensures)),
+      (refl, moved-count _ _ {y = folded start} (fold .fold .ensures) (times .times-power .ensures)),
     )
 
 pub moved-by-spec : {M : Type 1} → statement M

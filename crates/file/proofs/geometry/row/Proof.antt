@@ -1,9 +1,10 @@
--- `file::geometry::row` meets its contract. In each arm the lengths of an accepted edit of that kind bound the sums and
+-- `file::geometry::row` meets its contract. In each arm the lengths of an accepted edit of that kind (`Accepted`) bound the sums and
 -- differences, and the arm's row is the geometry (`ShapeLaws`). Assumes nothing.
 use native.Mathlib.Omega.{arith}
 use borrow.Author.Needs.{needs}
 use Rattle.file.specs.declared.geometry.Kind.the-variants.{Change, Append, Prepend, DropFront, CutTail}
-use Rattle.file.proofs.ShapeLaws.{accepted-as, row-change, row-append, row-prepend, row-drop, row-cut}
+use Rattle.file.proofs.Accepted.{accepted-as}
+use Rattle.file.proofs.ShapeLaws.{row-change, row-append, row-prepend, row-drop, row-cut}
 use Rattle.file.proofs.geometry.row.Statement.{statement}
 use Rattle.file.proofs.geometry.row.Tie as tie
 
