@@ -1,5 +1,5 @@
 # Thin names over rt and the gate.
-.PHONY: run test
+.PHONY: run lib example test
 
 # Build what there is to run, and run it on small examples.
 run:
@@ -10,6 +10,23 @@ run:
 	target/bin/demo
 	@echo; echo "FIPS 197's examples for the cipher:"
 	head -n 11 crates/cipher_vectors/stdin | target/bin/cipher_vectors
+
+# The static library that C and Rust programs link, and its header, in target/lib. It needs no other library.
+LAYERS = crates/cipher crates/field crates/file crates/capi
+lib: target/lib/libarmfile.a target/lib/armfile.h
+target/lib/libarmfile.a: crates.txt $(shell find $(LAYERS) -name '*.rt' -o -name '*.antt')
+	rt staticlib capi
+	mkdir -p target/lib
+	cp target/staticlib/libcapi.a $@
+target/lib/armfile.h: include/armfile.h
+	mkdir -p target/lib
+	cp include/armfile.h $@
+
+# The C example, compiled against the library and run.
+example: lib
+	mkdir -p target/example
+	$(CC) -std=c11 -Wall -Wextra -Werror -O2 -Itarget/lib examples/c/seal.c -Ltarget/lib -larmfile -o target/example/seal
+	target/example/seal
 
 # The gate.
 test:

@@ -12,13 +12,12 @@ use Rattle.cipher.specs.declared.Cause.the-variants.{InputLength, Output
 use Rattle.cipher.specs.Cipher.{aes128}
 
 -- document 01's number of a cause
-unfoldable pub causeNumber : Cause → ℕ
+abbrev pub causeNumber : Cause → ℕ
 causeNumber InputLength = 1
 causeNumber OutputLength = 7
 
 -- document 01's number of an answer, 0 where the work was done
-unfoldable pub answerNumber : Answer → ℕ
-unfolding causeNumber
+abbrev pub answerNumber : Answer → ℕ
 answerNumber Done = 0
 answerNumber (Refused c) = causeNumber c
 

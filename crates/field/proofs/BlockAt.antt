@@ -6,14 +6,14 @@ use mathlib.Core.List.{List, _++_}
 use Prim.Native.Nat.{ℕ, suc, _+_, _*_, _^_, _≤_, _<_}
 use native.Mathlib.Nat.{mod-eq-of-lt}
 use native.Mathlib.Omega.{arith}
-use lib.ListN.{length, replicate}
+use lib.ListN.{length, getD, take, drop, replicate}
 use Rattle.field.specs.declared.blocks.Block.{Block}
 use Rattle.field.specs.Bytes.{number, bytes, xorBytes}
 use Rattle.field.specs.Blocks.{_⊕_, nil, Small, value, block, blockAt, bytesOf}
-use Rattle.field.proofs.Values.{value-lt, block-value, small-block}
+use Rattle.field.proofs.Values.{value-lt, value-block, block-value, small-block}
 use Rattle.field.proofs.Ring.{block-xor}
 use Rattle.field.proofs.Bytes.{number-lt, number-append-left, number-append-right, number-past, number-padded, number-zeros}
-use Rattle.field.proofs.Bytes.{number-bytes, length-bytes}
+use Rattle.field.proofs.Bytes.{number-bytes, bytes-number, length-bytes}
 use Rattle.field.proofs.XorBytes.{number-xor}
 
 -- ---- the blocks of a list
@@ -69,3 +69,10 @@ blockAt-bytes v h = ap block (number-bytes 16 v ∙ mod-eq-of-lt h)
 pub blockAt-bytesOf : (b : Block) → Small b → blockAt (bytesOf b) 0 ≡ b
 unfolding bytesOf
 blockAt-bytesOf b h = blockAt-bytes (value b) (value-lt b) ∙ block-value b h
+
+-- and a block that was read is written back as the bytes that stand there, where each is a byte
+pub bytesOf-blockAt : (s : List ℕ) (i : ℕ) → ((j : ℕ) → j < length s → getD s j 0 < 256) → 16 * i + 16 ≤ length s
+    → bytesOf (blockAt s i) ≡ take 16 (drop (16 * i) s)
+unfolding blockAt bytesOf
+bytesOf-blockAt s i small h =
+    ap (bytes 16) (value-block _ (number-lt s (16 * i) 16)) ∙ bytes-number s (16 * i) 16 small h

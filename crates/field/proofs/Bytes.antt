@@ -7,8 +7,8 @@ use Prim.Native.Nat.{ℕ, zero, suc, _+_, _-_, _*_, _/_, _%_, _^_, _≤_, _<_}
 use native.Mathlib.Nat.{le-refl, le-step, le-of-eq, zero-lt-suc, add-zero, zero-add, add-suc, add-assoc, mul-one, mul-assoc, one-le-pow}
 use native.Mathlib.Nat.{pow-suc, mod-lt, mod-mod, mod-one, div-lt-iff-lt-mul, mul-add-mod-self-right, mul-add-div-right, add-mul}
 use native.Mathlib.Omega.{arith}
-use lib.ListN.{length, getD, replicate, length-append, List·getD-append, List·getD-eq-default}
-use lib.Seq.{getD-append-add, getD-at}
+use lib.ListN.{length, getD, take, drop, replicate, length-append, length-drop, List·getD-append, List·getD-eq-default}
+use lib.Seq.{getD-append-add, getD-at, getD-drop, take-suc}
 use lib.Arith.{digits-lt, mod-mul, lt-one}
 use Rattle.field.specs.Bytes.{number, bytes}
 
@@ -116,6 +116,22 @@ number-bytes (suc k) v =
     (number-append-left front (v % 256 ∷ []) 0 k (le-of-eq (sym size)) ∙ number-bytes k (v / 256))
     (ap (λ (x : ℕ). x % 256) (getD-at front (v % 256) [] 0 (0 + k) size) ∙ mod-mod v 256)
     ∙ sym (ap (λ (x : ℕ). v % x) (pow-suc 256 k) ∙ mod-mul v (one-le-pow k 256 byte-pos) byte-pos)
+
+-- writing back what was read: the bytes that stand there, where each is a byte
+pub bytes-number : (s : List ℕ) (at k : ℕ) → ((j : ℕ) → j < length s → getD s j 0 < 256) → at + k ≤ length s
+    → bytes k (number s at k) ≡ take k (drop at s)
+unfolding number bytes
+bytes-number s at zero small h = refl
+bytes-number s at (suc k) small h =
+    let n = number s at k in
+    let b = getD s (at + k) 0 in
+    let l : b < 256 = small (at + k) (omega arith) in
+    let more : k < length (drop at s) = rw length-drop (omega arith) in
+    let above : (n * 256 + b % 256) / 256 ≡ n = omega arith in
+    let below : (n * 256 + b % 256) % 256 ≡ b = omega arith in
+    ap₂ (λ (x y : ℕ). bytes k x ++ (y ∷ [])) above below
+    ∙ ap (λ (t : List ℕ). t ++ (b ∷ [])) (bytes-number s at k small (omega arith))
+    ∙ sym (take-suc (drop at s) k 0 more ∙ ap (λ (x : ℕ). take k (drop at s) ++ (x ∷ [])) (getD-drop at s k 0))
 
 -- the bytes of a number, one at a time
 pub bytes-zero : (v : ℕ) → bytes 0 v ≡ []

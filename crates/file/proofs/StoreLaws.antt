@@ -23,17 +23,22 @@ pub record Stored (out p : List ℕ) (at : ℕ) (mid : List ℕ) : Type 0 where
 pub stored-none : (out : List ℕ) → Stored out [] 0 out
 stored-none out = record { is = refl; size = refl }
 
--- one number more
-pub stored-next : {out p mid last : List ℕ} {at : ℕ} (k v : ℕ) → Stored out p at mid → last ≡ sets mid at (bytes k v)
-    → Stored out (p ++ bytes k v) (at + k) last
-stored-next {out} {p} {mid} {last} {at} k v s e =
+-- a list of k elements more
+pub stored-list : {out p mid last : List ℕ} {at : ℕ} (q : List ℕ) (k : ℕ) → length q ≡ k → Stored out p at mid → last ≡ sets mid at q
+    → Stored out (p ++ q) (at + k) last
+stored-list {out} {p} {mid} {last} {at} q k l s e =
     record {
       is =
           e
-          ∙ ap₂ (λ (t : List ℕ) (i : ℕ). sets t i (bytes k v)) (s .is) (sym (zero-add (length p) ∙ s .size))
-          ∙ sets-append out 0 p (bytes k v);
-      size = length-append p (bytes k v) ∙ ap₂ _+_ (s .size) (length-bytes k v);
+          ∙ ap₂ (λ (t : List ℕ) (i : ℕ). sets t i q) (s .is) (sym (zero-add (length p) ∙ s .size))
+          ∙ sets-append out 0 p q;
+      size = length-append p q ∙ ap₂ _+_ (s .size) l;
     }
+
+-- one number more
+pub stored-next : {out p mid last : List ℕ} {at : ℕ} (k v : ℕ) → Stored out p at mid → last ≡ sets mid at (bytes k v)
+    → Stored out (p ++ bytes k v) (at + k) last
+stored-next k v s e = stored-list (bytes k v) k (length-bytes k v) s e
 
 -- over the whole slice, nothing else is left
 pub stored-all : {out p last : List ℕ} {n : ℕ} → Stored out p n last → length out ≡ n → last ≡ p

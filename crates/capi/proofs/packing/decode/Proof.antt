@@ -1,0 +1,61 @@
+-- `capi::packing::decode` meets its contract. The key's sixteen bytes, three blocks and three numbers are the state (`StateBytes`). Assumes
+-- nothing.
+use mathlib.Core.Path.{sym}
+use native.Mathlib.Omega.{arith}
+use borrow.Author.Needs.{needs}
+use Rattle.cipher.proofs.AesLaws.{length-fits}
+use Rattle.field.proofs.Bytes.{number-lt}
+use Rattle.capi.proofs.StateBytes.{key-size, decoded}
+use Rattle.capi.proofs.packing.decode.Statement.{statement}
+use Rattle.capi.proofs.packing.decode.Tie as tie
+
+slice-aggregate-from-bytes : tie.Need-slice-aggregate-from-bytes
+slice-aggregate-from-bytes c = sym (key-size (c .before .before .args .b .now) (c .before .all .given .0))
+
+from-bytes-requires : tie.Need-from-bytes-requires
+from-bytes-requires c κs = length-fits _ (key-size (c .before .before .args .b .now) (c .before .all .given .0))
+
+load-requires : tie.Need-load-requires
+load-requires c κs = search needs
+
+load-requires-2 : tie.Need-load-requires-2
+load-requires-2 c κs = search needs
+
+load-requires-3 : tie.Need-load-requires-3
+load-requires-3 c κs = search needs
+
+number-at-requires : tie.Need-number-at-requires
+number-at-requires c κs = search needs
+
+number-at-requires-2 : tie.Need-number-at-requires-2
+number-at-requires-2 c κs = search needs
+
+cast-arm : tie.Need-cast-arm
+cast-arm c =
+    let start = c .before .before .before .before .before .before .before .before in
+    omega (arith, c .number-at2 .ensures, number-lt (start .args .b .now) 72 4)
+
+number-at-requires-3 : tie.Need-number-at-requires-3
+number-at-requires-3 c κs = search needs
+
+returns : tie.Need-returns
+returns c =
+    let h = c .before .before .before .before .before in
+    decoded _ (h .before .from-bytes .ensures) (h .load .ensures) (c .before .before .before .before .load2 .ensures)
+    (c .before .before .before .load3 .ensures) (c .before .before .number-at .ensures) (c .before .number-at2 .ensures)
+    (c .number-at3 .ensures)
+
+pub decode-spec : {M : Type 1} → statement M
+decode-spec =
+    tie.close
+    (tie.spec
+    slice-aggregate-from-bytes
+    from-bytes-requires
+    load-requires
+    load-requires-2
+    load-requires-3
+    number-at-requires
+    number-at-requires-2
+    cast-arm
+    number-at-requires-3
+    returns)

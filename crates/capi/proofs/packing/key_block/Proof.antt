@@ -1,0 +1,22 @@
+-- `capi::packing::key_block` meets its contract. Sixteen bytes that are read as a block are its bytes (`StateBytes`). Assumes nothing.
+use lib.ListN.{getD}
+use mir.Syntax.{w8}
+use mir.Val.{Fits}
+use borrow.Author.Needs.{needs}
+use Rattle.capi.proofs.StateBytes.{key-back}
+use Rattle.capi.proofs.packing.key_block.Statement.{statement}
+use Rattle.capi.proofs.packing.key_block.Tie as tie
+
+slice-aggregate-from-bytes : tie.Need-slice-aggregate-from-bytes
+slice-aggregate-from-bytes c = search needs
+
+from-bytes-requires : tie.Need-from-bytes-requires
+from-bytes-requires c κs = search needs
+
+returns : tie.Need-returns
+returns c =
+    let key = c .before .before .before .args .key .bytes in
+    key-back key (search needs) (λ j l. let f : Fits w8 (getD key j 0) = search needs in f .fits) (c .from-bytes .ensures)
+
+pub key-block-spec : {M : Type 1} → statement M
+key-block-spec = tie.close (tie.spec slice-aggregate-from-bytes from-bytes-requires returns)

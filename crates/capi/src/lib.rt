@@ -1,0 +1,185 @@
+// The C boundary: every call of the layers below over lent bytes. The state is 84 lent bytes (specs/Bytes). Every call answers a refusal's
+// number (document 01, "Causes and their numbers") or 0. include/armfile.h is the manual for C callers.
+mod answers;
+mod packing;
+
+use answers::cipher_number;
+use answers::field_number;
+use answers::file_number;
+use answers::keep;
+use file::State;
+use file::causes::Answer;
+use file::slips::Verdict;
+use packing::decode;
+use packing::encode;
+ghost use mathlib.Core.Path.{_≡_};
+ghost use Rattle.cipher.specs.Aes.{encryptNumber, encryptOutput};
+ghost use Rattle.field.specs.Field.{multiplyNumber, multiplyOutput, ghashNumber, ghashOutput};
+ghost use Rattle.file.specs.Tags.{gmacNumber, gmacOutput};
+ghost use Rattle.file.specs.Edits;
+ghost use Rattle.capi.specs.Calls.{editAnswer, editCall, startAnswer, startCall, readCall, sealAnswer, sealCall, checkAnswer, checkCall};
+
+// AES-128 of one block. Refused, in this order, with 1 where key or block is not 16 bytes and with 7 where out is not.
+#[no_mangle]
+pub extern "C" fn armfile_encrypt(key: &[u8], block: &[u8], out: &mut [u8]) -> u64
+    ensures answer { λ r. ⌜ r ≡ encryptNumber (now (key .entry)) (now (block .entry)) (now (out .entry)) ⌝ }
+    ensures output { λ _. ⌜ now (out .exit) ≡ encryptOutput (now (key .entry)) (now (block .entry)) (now (out .entry)) ⌝ }
+{
+    cipher_number(cipher::encrypt(key, block, out))
+}
+
+// The product of two blocks. Refused, in this order, with 1 where a or b is not 16 bytes and with 7 where out is not.
+#[no_mangle]
+pub extern "C" fn armfile_multiply(a: &[u8], b: &[u8], out: &mut [u8]) -> u64
+    ensures answer { λ r. ⌜ r ≡ multiplyNumber (now (a .entry)) (now (b .entry)) (now (out .entry)) ⌝ }
+    ensures output { λ _. ⌜ now (out .exit) ≡ multiplyOutput (now (a .entry)) (now (b .entry)) (now (out .entry)) ⌝ }
+{
+    field_number(field::multiply(a, b, out))
+}
+
+// GHASH of a and c under the hash key h. Refused, in this order, with 1 where h is not 16 bytes, with 7 where out is not, and with 2 where
+// a or c passes 2^61 - 1 bytes.
+#[no_mangle]
+pub extern "C" fn armfile_ghash(h: &[u8], a: &[u8], c: &[u8], out: &mut [u8]) -> u64
+    ensures answer { λ r. ⌜ r ≡ ghashNumber (now (h .entry)) (now (a .entry)) (now (c .entry)) (now (out .entry)) ⌝ }
+    ensures output { λ _. ⌜ now (out .exit) ≡ ghashOutput (now (h .entry)) (now (a .entry)) (now (c .entry)) (now (out .entry)) ⌝ }
+{
+    field_number(field::ghash(h, a, c, out))
+}
+
+// GMAC of a under a key and a nonce. Refused, in this order, with 1 where the key is not one, with 9 where the nonce is empty, with 7 where
+// out is not 16 bytes, and with 2 where nonce or a passes 2^61 - 1 bytes.
+#[no_mangle]
+pub extern "C" fn armfile_gmac(key: &[u8], nonce: &[u8], a: &[u8], out: &mut [u8]) -> u64
+    ensures answer { λ r. ⌜ r ≡ gmacNumber (now (key .entry)) (now (nonce .entry)) (now (a .entry)) (now (out .entry)) ⌝ }
+    ensures output { λ _. ⌜ now (out .exit) ≡ gmacOutput (now (key .entry)) (now (nonce .entry)) (now (a .entry)) (now (out .entry)) ⌝ }
+{
+    file_number(file::gmac(key, nonce, a, out))
+}
+
+// The state of n zero bytes. Refused, in this order, with 1 where the key is not one and with 2 where n passes 2^61 - 1; the lent state
+// then stays as it was.
+#[no_mangle]
+pub extern "C" fn armfile_start(
+    key: &[u8],
+    arm: u32,
+    last: u64,
+    n: u64,
+    state: &mut [u8; 84],
+) -> u64
+    ensures { λ r. ⌜ startAnswer r (now (state .exit)) ≡ startCall (now (key .entry)) arm last n (now (state .entry)) ⌝ }
+{
+    let mut none = 0u64;
+    keep(State::start(key, arm, last, n), state, &mut none)
+}
+
+// The state of a lent file. Refused, in this order, with 1 where the key is not one and with 2 where the file passes 2^61 - 1 bytes; the
+// lent state then stays as it was.
+#[no_mangle]
+pub extern "C" fn armfile_read(
+    key: &[u8],
+    arm: u32,
+    last: u64,
+    file: &[u8],
+    state: &mut [u8; 84],
+) -> u64
+    ensures { λ r. ⌜ startAnswer r (now (state .exit)) ≡ readCall (now (key .entry)) arm last (now (file .entry)) (now (state .entry)) ⌝ }
+{
+    let mut none = 0u64;
+    keep(State::read(key, arm, last, file), state, &mut none)
+}
+
+// Bytes p to p + l - 1 become new; old and new are of l bytes each. Refused as `State::change` is; state and count then stay as they were.
+#[no_mangle]
+pub extern "C" fn armfile_change(
+    state: &mut [u8; 84],
+    p: u64,
+    old: &[u8],
+    new: &[u8],
+    count: &mut u64,
+) -> u64
+    ensures { λ r. ⌜ editAnswer r (now (state .exit)) (now (count .exit))
+        ≡ editCall (now (state .entry)) (Edits.change p (now (old .entry)) (now (new .entry))) (now (count .entry)) ⌝ }
+{
+    let st = decode(state);
+    keep(st.change(p, old, new), state, count)
+}
+
+// The given bytes go after the last. Refused as `State::append` is; state and count then stay as they were.
+#[no_mangle]
+pub extern "C" fn armfile_append(state: &mut [u8; 84], bytes: &[u8], count: &mut u64) -> u64
+    ensures { λ r. ⌜ editAnswer r (now (state .exit)) (now (count .exit))
+        ≡ editCall (now (state .entry)) (Edits.append (now (bytes .entry))) (now (count .entry)) ⌝ }
+{
+    let st = decode(state);
+    keep(st.append(bytes), state, count)
+}
+
+// The given bytes go before the first. Refused as `State::prepend` is; state and count then stay as they were.
+#[no_mangle]
+pub extern "C" fn armfile_prepend(state: &mut [u8; 84], bytes: &[u8], count: &mut u64) -> u64
+    ensures { λ r. ⌜ editAnswer r (now (state .exit)) (now (count .exit))
+        ≡ editCall (now (state .entry)) (Edits.prepend (now (bytes .entry))) (now (count .entry)) ⌝ }
+{
+    let st = decode(state);
+    keep(st.prepend(bytes), state, count)
+}
+
+// The given bytes leave the front. Refused as `State::drop_front` is; state and count then stay as they were.
+#[no_mangle]
+pub extern "C" fn armfile_drop_front(state: &mut [u8; 84], bytes: &[u8], count: &mut u64) -> u64
+    ensures { λ r. ⌜ editAnswer r (now (state .exit)) (now (count .exit))
+        ≡ editCall (now (state .entry)) (Edits.dropFront (now (bytes .entry))) (now (count .entry)) ⌝ }
+{
+    let st = decode(state);
+    keep(st.drop_front(bytes), state, count)
+}
+
+// The given bytes leave the end. Refused as `State::cut_tail` is; state and count then stay as they were.
+#[no_mangle]
+pub extern "C" fn armfile_cut_tail(state: &mut [u8; 84], bytes: &[u8], count: &mut u64) -> u64
+    ensures { λ r. ⌜ editAnswer r (now (state .exit)) (now (count .exit))
+        ≡ editCall (now (state .entry)) (Edits.cutTail (now (bytes .entry))) (now (count .entry)) ⌝ }
+{
+    let st = decode(state);
+    keep(st.cut_tail(bytes), state, count)
+}
+
+// Seals the file: the last used number rises by one, and the slip gets the new one and the file's tag under it. Refused as `State::seal`
+// is; state and slip then stay as they were.
+#[no_mangle]
+pub extern "C" fn armfile_seal(state: &mut [u8; 84], slip: &mut [u8]) -> u64
+    ensures { λ r. ⌜ sealAnswer r (now (state .exit)) (now (slip .exit)) ≡ sealCall (now (state .entry)) (now (slip .entry)) ⌝ }
+{
+    let st = decode(state);
+    let sealed = st.seal(slip);
+    let answer = sealed.answer;
+    if let Answer::Refused(cause) = answer {
+        return cause.number();
+    }
+    let after = sealed.state;
+    encode(after, state);
+    0
+}
+
+// Whether a slip is of the file: the verdict is 1 for genuine and 0 for not. Refused as `State::check` is; the verdict then stays as it
+// was. The state stays as it was.
+#[no_mangle]
+pub extern "C" fn armfile_check(state: &mut [u8; 84], slip: &[u8], verdict: &mut u8) -> u64
+    ensures { λ r. ⌜ checkAnswer r (now (state .exit)) (now (verdict .exit))
+        ≡ checkCall (now (state .entry)) (now (slip .entry)) (now (verdict .entry)) ⌝ }
+{
+    let st = decode(state);
+    let v = st.check(slip);
+    match v {
+        Verdict::Refused(cause) => cause.number(),
+        Verdict::Genuine => {
+            *verdict = 1;
+            0
+        }
+        Verdict::NotGenuine => {
+            *verdict = 0;
+            0
+        }
+    }
+}

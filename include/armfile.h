@@ -1,0 +1,403 @@
+/*
+ * armfile: the seal of a robot arm's motion file.
+ *
+ * A controller keeps no motion file, only a state of 84 bytes: key, hash key,
+ * running sum (GHASH), length, arm number, last used seal number. Five edits
+ * move that state without reading the file. A seal writes a slip of 36 bytes
+ * whose tag is AES-128 GMAC of the whole file; a check says whether a slip is
+ * genuine. FIPS 197 decides for AES, NIST SP 800-38D for the field, GHASH and
+ * GMAC.
+ *
+ * CONVENTIONS
+ *
+ * Every function returns 0 when the work was done, or the number of a refusal
+ * (below). A refused call leaves every lent buffer, the state, the count and
+ * the verdict as they were. No input makes a call fail in any other way: there
+ * is no abort, no assertion and no error state. This is proved, for all
+ * inputs, of the source; the compiler's back end and linker are not covered.
+ *
+ * Nothing is allocated, and no static data is written: calls on different
+ * states may run in different threads. Calls on one state must not overlap in
+ * time.
+ *
+ * A byte slice passes as a pointer and a length in bytes. No alignment is
+ * asked of it.
+ *
+ * WHAT CALLERS MUST GUARANTEE
+ *
+ * Nothing in the library can test these, and nothing is promised without them:
+ *
+ *  - Every pointer is valid and not NULL, also where its length is 0 (any
+ *    address of an object then serves).
+ *  - Every length is the true one: that many bytes may be read, and of `out`
+ *    and a seal's `slip` written. It is below 2^63.
+ *  - `state` points to ARMFILE_STATE_BYTES bytes, `count` to an aligned
+ *    uint64_t, `verdict` to one byte. None of them needs a value before the
+ *    call, but for the state of an edit, a seal or a check.
+ *  - What a call may write (state, count, out, the slip of a seal, verdict)
+ *    overlaps nothing else that is passed to it. What is only read may overlap
+ *    freely: old and new of a change may be the same bytes.
+ *
+ * TIME
+ *
+ * The code has no branch and no address that depends on a key, on a hash key,
+ * on a running sum or on a file's bytes, with one exception: the cipher's
+ * substitution table is looked up at addresses that depend on key and block,
+ * so on a machine with a data cache the cipher (armfile_encrypt, armfile_gmac,
+ * armfile_start, armfile_read, armfile_seal, armfile_check) is not
+ * constant-time. Time does depend on lengths, on places (p, n), on the arm
+ * number, on seal numbers and on a slip's bytes outside its tag; these are
+ * taken for public. A check compares two tags by one test of all their bits.
+ * This is how the source is written; it is not part of what is proved.
+ *
+ * THE STATE
+ *
+ * ARMFILE_STATE_BYTES bytes, big-endian, in this order:
+ *
+ *      at   bytes  what
+ *       0     16   key
+ *      16     16   hash key H, AES(key, zero block)
+ *      32     16   I, H to the power 2^128 - 2
+ *      48     16   running sum S of the file
+ *      64      8   n, the file's length in bytes
+ *      72      4   arm number
+ *      76      8   last used seal number
+ *
+ * THE LAYOUT AND THE SIZE ARE PROVISIONAL until keys of both sizes are in:
+ * store no state that a later version must read, and write
+ * ARMFILE_STATE_BYTES, never 84.
+ *
+ * The state is secret: it holds the key. It may be copied and stored; a copy
+ * that is used later repeats seal numbers, which breaks GMAC, so never go back
+ * to an older copy after a seal. Wiping it is the caller's.
+ *
+ * Any 84 bytes are taken as a state; no call trusts what it finds there. Where
+ * n passes 2^61 - 1, every call but armfile_start and armfile_read refuses the
+ * state with 2 before all else; otherwise the call does its work on the fields
+ * as they are. Only states that come from armfile_start or armfile_read and
+ * the calls after it stand for a file.
+ *
+ * TRUE BYTES
+ *
+ * The library cannot see the file. Where armfile_change is given old bytes, or
+ * armfile_drop_front or armfile_cut_tail removed bytes, that the file does not
+ * have at that place, the call is accepted and the state stands for no file
+ * from then on: seals of it are not GMAC of the file.
+ */
+#ifndef ARMFILE_H
+#define ARMFILE_H
+
+#include <stddef.h>
+#include <stdint.h>
+
+#ifdef __cplusplus
+extern "C" {
+#endif
+
+/** \brief Size of a state in bytes; provisional (see above). */
+#define ARMFILE_STATE_BYTES 84
+
+/** \brief Size of a slip in bytes. */
+#define ARMFILE_SLIP_BYTES 36
+
+/*
+ * Refusals. Where several apply, the one that a function's description lists
+ * first is returned.
+ */
+
+/** \brief Done. */
+#define ARMFILE_OK 0
+/** \brief Key, hash key or block is not 16 bytes. */
+#define ARMFILE_KEY_OR_BLOCK_LENGTH 1
+/** \brief A file, A, C or nonce passes 2^61 - 1 bytes, or would. */
+#define ARMFILE_TOO_LONG 2
+/** \brief The bytes named do not all lie in the file. */
+#define ARMFILE_OUT_OF_FILE 3
+/** \brief Old and new differ in length. */
+#define ARMFILE_UNEQUAL_PAIR 4
+/** \brief Prepend or drop-front of a length that is no multiple of 16. */
+#define ARMFILE_BROKEN_BLOCK 5
+/** \brief The last used seal number is 2^64 - 1: no number is left. */
+#define ARMFILE_NUMBERS_USED 6
+/** \brief A slip is not 36 bytes, or an output is not 16. */
+#define ARMFILE_OUTPUT_LENGTH 7
+/** \brief The slip's version is not 1. */
+#define ARMFILE_SLIP_VERSION 8
+/** \brief The nonce is empty. */
+#define ARMFILE_EMPTY_NONCE 9
+
+/* ==================================================================== */
+/* Cipher, field, GHASH and GMAC: no state.                             */
+
+/**
+ * \brief AES-128 encryption of one block.
+ *
+ * Refused with 1 where `key_len` or `block_len` is not 16, then with 7 where
+ * `out_len` is not 16.
+ *
+ * \param key        the key, 16 bytes.
+ * \param key_len    its length; anything but 16 is refused.
+ * \param block      the block to encrypt, 16 bytes.
+ * \param block_len  its length; anything but 16 is refused.
+ * \param out        receives the encrypted block, 16 bytes. It must not
+ *                   overlap key or block.
+ * \param out_len    its length; anything but 16 is refused.
+ * \return 0, 1 or 7.
+ */
+uint64_t armfile_encrypt(const uint8_t *key, size_t key_len,
+	const uint8_t *block, size_t block_len,
+	uint8_t *out, size_t out_len);
+
+/**
+ * \brief The product of two blocks in GF(2^128), as SP 800-38D has it.
+ *
+ * The leftmost bit of a block is the coefficient of x^0; products are taken
+ * modulo x^128 + x^7 + x^2 + x + 1. Refused with 1 where `a_len` or `b_len` is
+ * not 16, then with 7 where `out_len` is not 16.
+ *
+ * \param a        the first factor, 16 bytes.
+ * \param a_len    its length; anything but 16 is refused.
+ * \param b        the second factor, 16 bytes; it may be a.
+ * \param b_len    its length; anything but 16 is refused.
+ * \param out      receives the product, 16 bytes. It must not overlap a or b.
+ * \param out_len  its length; anything but 16 is refused.
+ * \return 0, 1 or 7.
+ */
+uint64_t armfile_multiply(const uint8_t *a, size_t a_len,
+	const uint8_t *b, size_t b_len,
+	uint8_t *out, size_t out_len);
+
+/**
+ * \brief GHASH(h, a, c): over a padded, c padded and their bit lengths.
+ *
+ * Refused with 1 where `h_len` is not 16, then with 7 where `out_len` is not
+ * 16, then with 2 where `a_len` or `c_len` passes 2^61 - 1 (the bit length
+ * would not fit 64 bits). The work is one product for each 16 bytes of a and
+ * of c, rounded up, and one more.
+ *
+ * \param h        the hash key, 16 bytes; zero is allowed.
+ * \param h_len    its length; anything but 16 is refused.
+ * \param a        the additional data; it may be empty.
+ * \param a_len    its length, at most 2^61 - 1.
+ * \param c        the ciphertext; it may be empty.
+ * \param c_len    its length, at most 2^61 - 1.
+ * \param out      receives the hash, 16 bytes. It must not overlap h, a or c.
+ * \param out_len  its length; anything but 16 is refused.
+ * \return 0, 1, 7 or 2.
+ */
+uint64_t armfile_ghash(const uint8_t *h, size_t h_len,
+	const uint8_t *a, size_t a_len,
+	const uint8_t *c, size_t c_len,
+	uint8_t *out, size_t out_len);
+
+/**
+ * \brief AES-128 GMAC of a under a key and a nonce.
+ *
+ * A nonce of 12 bytes is used as it is, any other is hashed first (SP
+ * 800-38D, 7.1). One nonce must never serve two messages under one key.
+ * Refused with 1 where `key_len` is not 16, then with 9 where `nonce_len` is
+ * 0, then with 7 where `out_len` is not 16, then with 2 where `nonce_len` or
+ * `a_len` passes 2^61 - 1.
+ *
+ * \param key        the key, 16 bytes.
+ * \param key_len    its length; anything but 16 is refused.
+ * \param nonce      the nonce.
+ * \param nonce_len  its length, from 1 to 2^61 - 1.
+ * \param a          the message; it may be empty.
+ * \param a_len      its length, at most 2^61 - 1.
+ * \param out        receives the tag, 16 bytes. It must not overlap key, nonce
+ *                   or a.
+ * \param out_len    its length; anything but 16 is refused.
+ * \return 0, 1, 9, 7 or 2.
+ */
+uint64_t armfile_gmac(const uint8_t *key, size_t key_len,
+	const uint8_t *nonce, size_t nonce_len,
+	const uint8_t *a, size_t a_len,
+	uint8_t *out, size_t out_len);
+
+/* ==================================================================== */
+/* Making a state.                                                      */
+
+/**
+ * \brief A state of n zero bytes.
+ *
+ * n = 0 is the empty file. Refused with 1 where `key_len` is not 16, then with
+ * 2 where n passes 2^61 - 1; the lent state then stays as it was.
+ *
+ * \param key      the key, 16 bytes; it is copied into the state.
+ * \param key_len  its length; anything but 16 is refused.
+ * \param arm      the arm number, which goes into every slip and nonce.
+ * \param last     the last used seal number: 0 for a new key, and for a key
+ *                 that has sealed before, the highest number that any of its
+ *                 seals on this arm carried. A number that is used twice
+ *                 breaks GMAC. 2^64 - 1 is taken; a seal is then refused.
+ * \param n        the file's length in bytes, at most 2^61 - 1.
+ * \param state    receives the state, ARMFILE_STATE_BYTES bytes.
+ * \return 0, 1 or 2.
+ */
+uint64_t armfile_start(const uint8_t *key, size_t key_len,
+	uint32_t arm, uint64_t last, uint64_t n, uint8_t state[ARMFILE_STATE_BYTES]);
+
+/**
+ * \brief A state of a file that is at hand.
+ *
+ * The file is read once and not kept. Refused with 1 where `key_len` is not
+ * 16, then with 2 where `file_len` passes 2^61 - 1; the lent state then stays
+ * as it was.
+ *
+ * \param key       the key, 16 bytes; it is copied into the state.
+ * \param key_len   its length; anything but 16 is refused.
+ * \param arm       the arm number, as for armfile_start().
+ * \param last      the last used seal number, as for armfile_start().
+ * \param file      the file's bytes; it may be empty.
+ * \param file_len  its length, at most 2^61 - 1.
+ * \param state     receives the state, ARMFILE_STATE_BYTES bytes.
+ * \return 0, 1 or 2.
+ */
+uint64_t armfile_read(const uint8_t *key, size_t key_len,
+	uint32_t arm, uint64_t last,
+	const uint8_t *file, size_t file_len, uint8_t state[ARMFILE_STATE_BYTES]);
+
+/* ==================================================================== */
+/* The five edits.                                                      */
+/*                                                                      */
+/* Each is given the bytes it puts in or takes out, and never the rest  */
+/* of the file. Each is refused with 2, before all else, where the      */
+/* state's length passes 2^61 - 1. On a refusal state and count stay as */
+/* they were. An edit of no bytes that passes its checks is accepted,   */
+/* leaves the state as it was and counts 0. The count is the number of  */
+/* field products that the edit took: one for each 16-byte block that   */
+/* the given bytes touch, and at most two for each binary digit of the  */
+/* file's block count, the larger of before and after. It is the edit's */
+/* cost, and may be ignored.                                            */
+
+/**
+ * \brief Replaces bytes in place: bytes p to p + new_len - 1 become new.
+ *
+ * Refused with 4 where `old_len` and `new_len` differ, then with 3 where
+ * p + old_len passes the file's length (as whole numbers: nothing wraps). A
+ * change of no bytes at p = n is accepted, at p = n + 1 refused with 3.
+ *
+ * \param state    the state, ARMFILE_STATE_BYTES bytes; updated.
+ * \param p        the first byte's place, counted from 0.
+ * \param old      the bytes that stand there now; see TRUE BYTES.
+ * \param old_len  their number.
+ * \param new_     the bytes to stand there.
+ * \param new_len  their number; it must be old_len.
+ * \param count    receives the number of products.
+ * \return 0, 2, 4 or 3.
+ */
+uint64_t armfile_change(uint8_t state[ARMFILE_STATE_BYTES], uint64_t p,
+	const uint8_t *old, size_t old_len,
+	const uint8_t *new_, size_t new_len, uint64_t *count);
+
+/**
+ * \brief Puts bytes after the last.
+ *
+ * Any length; an append may begin and end inside a block. Refused with 2
+ * where the new length would pass 2^61 - 1.
+ *
+ * \param state      the state, ARMFILE_STATE_BYTES bytes; updated.
+ * \param bytes      the bytes.
+ * \param bytes_len  their number.
+ * \param count      receives the number of products.
+ * \return 0 or 2.
+ */
+uint64_t armfile_append(uint8_t state[ARMFILE_STATE_BYTES],
+	const uint8_t *bytes, size_t bytes_len, uint64_t *count);
+
+/**
+ * \brief Puts bytes before the first.
+ *
+ * Refused with 5 where `bytes_len` is no multiple of 16, then with 2 where the
+ * new length would pass 2^61 - 1.
+ *
+ * \param state      the state, ARMFILE_STATE_BYTES bytes; updated.
+ * \param bytes      the bytes.
+ * \param bytes_len  their number, a multiple of 16.
+ * \param count      receives the number of products.
+ * \return 0, 2 or 5.
+ */
+uint64_t armfile_prepend(uint8_t state[ARMFILE_STATE_BYTES],
+	const uint8_t *bytes, size_t bytes_len, uint64_t *count);
+
+/**
+ * \brief Takes bytes off the front.
+ *
+ * Refused with 5 where `bytes_len` is no multiple of 16, then with 3 where it
+ * passes the file's length.
+ *
+ * \param state      the state, ARMFILE_STATE_BYTES bytes; updated.
+ * \param bytes      the file's first bytes_len bytes; see TRUE BYTES.
+ * \param bytes_len  how many to take off, a multiple of 16.
+ * \param count      receives the number of products.
+ * \return 0, 2, 5 or 3.
+ */
+uint64_t armfile_drop_front(uint8_t state[ARMFILE_STATE_BYTES],
+	const uint8_t *bytes, size_t bytes_len, uint64_t *count);
+
+/**
+ * \brief Takes bytes off the end.
+ *
+ * Any length up to the file's. Refused with 3 where `bytes_len` passes the
+ * file's length.
+ *
+ * \param state      the state, ARMFILE_STATE_BYTES bytes; updated.
+ * \param bytes      the file's last bytes_len bytes; see TRUE BYTES.
+ * \param bytes_len  how many to take off.
+ * \param count      receives the number of products.
+ * \return 0, 2 or 3.
+ */
+uint64_t armfile_cut_tail(uint8_t state[ARMFILE_STATE_BYTES],
+	const uint8_t *bytes, size_t bytes_len, uint64_t *count);
+
+/* ==================================================================== */
+/* Seal and check.                                                      */
+/*                                                                      */
+/* A slip is ARMFILE_SLIP_BYTES bytes, most significant bit first:      */
+/* version (3 bits, value 1), the file's length in bytes (61 bits), arm */
+/* number (32 bits), seal number (64 bits), tag (128 bits). Arm and     */
+/* seal number are the 12-byte nonce of the tag. A slip is no secret.   */
+
+/**
+ * \brief Seals the file: writes a slip under the next seal number.
+ *
+ * The last used seal number rises by one, and the slip carries the new one. So
+ * a state that was started with last = 0 numbers its first seal 1. Refused
+ * with 2 where the state's length passes 2^61 - 1, then with 7 where
+ * `slip_len` is not 36, then with 6 where the last used number is 2^64 - 1;
+ * state and slip then stay as they were. The state must be kept after a seal,
+ * or its number is used again.
+ *
+ * \param state     the state, ARMFILE_STATE_BYTES bytes; its last used seal
+ *                  number is raised.
+ * \param slip      receives the slip, ARMFILE_SLIP_BYTES bytes.
+ * \param slip_len  its length; anything but 36 is refused.
+ * \return 0, 2, 7 or 6.
+ */
+uint64_t armfile_seal(uint8_t state[ARMFILE_STATE_BYTES], uint8_t *slip, size_t slip_len);
+
+/**
+ * \brief Says whether a slip is genuine.
+ *
+ * It is, exactly when its length is the file's, its arm is the state's and its
+ * tag is the file's under the slip's own arm and seal number. The seal number
+ * is not compared with the state's: an old slip of the same bytes is genuine.
+ * Refused with 2 where the state's length passes 2^61 - 1, then with 7 where
+ * `slip_len` is not 36, then with 8 where the slip's version is not 1; the
+ * verdict then stays as it was, so test the returned number first.
+ *
+ * \param state     the state, ARMFILE_STATE_BYTES bytes; it stays as it was.
+ * \param slip      the slip to judge, any bytes.
+ * \param slip_len  its length; anything but 36 is refused.
+ * \param verdict   receives 1 for genuine, 0 for not.
+ * \return 0, 2, 7 or 8.
+ */
+uint64_t armfile_check(uint8_t state[ARMFILE_STATE_BYTES],
+	const uint8_t *slip, size_t slip_len, uint8_t *verdict);
+
+#ifdef __cplusplus
+}
+#endif
+
+#endif
