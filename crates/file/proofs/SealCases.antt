@@ -3,7 +3,7 @@
 use mathlib.Core.Path.{_≡_, refl, sym, ap, ap₂, _∙_}
 use mathlib.Core.Bool.{Bool, true, false}
 use mathlib.Core.List.{List}
-use Prim.Native.Nat.{ℕ, _+_, _-_, _^_, _≤_, _<_}
+use Prim.Native.Nat.{ℕ, _+_, _-_, _/_, _%_, _^_, _≤_, _<_}
 use native.Mathlib.Omega.{arith}
 use lib.Bits.{bitOr, bitXor, or-add-and, xor-add-and, and-le-l, and-le-r, xor-self}
 use lib.Dec.{eqb}
@@ -43,11 +43,22 @@ or-none : (p q : ℕ) → bitOr p q ≡ 0 → (p ≡ 0) × (q ≡ 0)
 or-none p q e =
     (omega (arith, or-add-and p q, and-le-l p q, and-le-r p q), omega (arith, or-add-and p q, and-le-l p q, and-le-r p q))
 
--- the words' differences, joined, are 0 exactly where the blocks are one number
+-- the halves of a word, joined, are 0 exactly where the word is
+folded-none : (d : ℕ) → eqb (bitOr (d / 4294967296) (d % 4294967296)) 0 ≡ eqb d 0
+folded-none d =
+    eqb-iff _ 0 d 0
+    (λ e.
+    let z = or-none (d / 4294967296) (d % 4294967296) e in
+    omega (arith, z .0, z .1))
+    (λ e. ap (λ x. bitOr (x / 4294967296) (x % 4294967296)) e)
+
+-- the words' differences, joined and folded, are 0 exactly where the blocks are one number
 pub same-words : (a b : Block) → Small a → Small b
-    → eqb (bitOr (bitXor (a .hi) (b .hi)) (bitXor (a .lo) (b .lo))) 0 ≡ eqb (value a) (value b)
+    → eqb (bitOr (bitOr (bitXor (a .hi) (b .hi)) (bitXor (a .lo) (b .lo)) / 4294967296)
+    (bitOr (bitXor (a .hi) (b .hi)) (bitXor (a .lo) (b .lo)) % 4294967296)) 0 ≡ eqb (value a) (value b)
 same-words a b p q =
-    eqb-iff _ 0 (value a) (value b)
+    folded-none (bitOr (bitXor (a .hi) (b .hi)) (bitXor (a .lo) (b .lo)))
+    ∙ eqb-iff _ 0 (value a) (value b)
     (λ e.
     let z = or-none _ _ e in
     ap value (λ i. record { hi = xor-none (a .hi) (b .hi) (z .0) i; lo = xor-none (a .lo) (b .lo) (z .1) i }))

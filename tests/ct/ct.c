@@ -1,0 +1,332 @@
+/* Constant time, observed: the library's calls on secrets that valgrind's memcheck takes to be undefined. Memcheck follows undefined bits
+ * through every instruction and reports a conditional jump, a conditional move or an address that depends on one. So a run with no
+ * report is one in which neither the path taken nor the places read and written depended on a secret.
+ *
+ * Secret: keys, H, I, S, blocks, and the bytes of files. Public: lengths, places, arm and seal numbers, nonces, slips, and every answer,
+ * count and verdict. Answers and counts must come out defined by themselves. A tag is published by the seal that makes it, and is
+ * declared public after that call, not before.
+ *
+ * The verdict is public and made inside check, so check may jump on it, and on nothing less: each check that comes to compare tags makes
+ * at most one report, the jump, and its verdict then comes out defined, settled by that jump; or it makes no report, and its verdict
+ * comes out undefined. A jump on a part of the tags would need a second one, or leave the verdict undefined.
+ *
+ * Each call is made on plain data too, and must give the same bytes.
+ *
+ * ct field    multiply, GHASH and the five edits, which use no cipher
+ * ct cipher   encrypt, GMAC, start, read and seal
+ * ct check    check
+ * ct branch, ct index    deliberate faults, which must be reported
+ */
+#include "armfile.h"
+#include <stdio.h>
+#include <stdlib.h>
+#include <string.h>
+#include <valgrind/memcheck.h>
+
+#define STATE ARMFILE_STATE_BYTES
+#define SECRET_STATE 64 /* key, H, I and S; n, arm and last used number follow */
+#define SLIP 36
+#define SLIP_HEAD 20 /* version, length, arm and number; the tag follows */
+#define LIMIT ((UINT64_C(1) << 61) - 1)
+#define MOST 100
+
+static const size_t lengths[] = {0, 1, 15, 16, 17, 32, 33, 64, MOST};
+#define LENGTHS (sizeof lengths / sizeof lengths[0])
+
+static unsigned calls, comparisons, jumps;
+
+static void fail(const char *what) {
+    fprintf(stderr, "ct: %s, in call %u\n", what, calls);
+    exit(1);
+}
+
+static void hide(void *bytes, size_t n) { (void)VALGRIND_MAKE_MEM_UNDEFINED(bytes, n); }
+
+static void reveal(void *bytes, size_t n) { (void)VALGRIND_MAKE_MEM_DEFINED(bytes, n); }
+
+/* Whether every bit of the bytes is defined (which 0) or undefined (which 0xff). */
+static int all_bits(const void *bytes, size_t n, unsigned char which) {
+    unsigned char bits[256];
+    if (n > sizeof bits || VALGRIND_GET_VBITS(bytes, bits, n) != 1)
+        fail("memcheck does not say which bits are defined");
+    for (size_t i = 0; i < n; i++)
+        if (bits[i] != which)
+            return 0;
+    return 1;
+}
+
+static void must_be_public(const void *bytes, size_t n, const char *what) {
+    if (!all_bits(bytes, n, 0))
+        fail(what);
+}
+
+/* The secrets did reach the output: memcheck followed them all the way. */
+static void must_be_secret(const void *bytes, size_t n, const char *what) {
+    if (!all_bits(bytes, n, 0xff))
+        fail(what);
+}
+
+static void must_be_same(const void *a, const void *b, size_t n, const char *what) {
+    if (memcmp(a, b, n) != 0)
+        fail(what);
+}
+
+/* An answer: defined, and the one expected. */
+static void answered(uint64_t answer, uint64_t expected) {
+    calls++;
+    must_be_public(&answer, sizeof answer, "an answer depends on a secret");
+    if (answer != expected)
+        fail("an answer is not the one expected");
+}
+
+/* Repeatable bytes, splitmix64. */
+static uint64_t seed = 5;
+
+static void fill(uint8_t *bytes, size_t n) {
+    for (size_t i = 0; i < n; i++) {
+        uint64_t z = seed += UINT64_C(0x9e3779b97f4a7c15);
+        z = (z ^ (z >> 30)) * UINT64_C(0xbf58476d1ce4e5b9);
+        z = (z ^ (z >> 27)) * UINT64_C(0x94d049bb133111eb);
+        bytes[i] = (uint8_t)(z ^ (z >> 31));
+    }
+}
+
+static void big_endian(uint8_t *bytes, uint64_t number, size_t width) {
+    for (size_t i = 0; i < width; i++)
+        bytes[i] = (uint8_t)(number >> (8 * (width - 1 - i)));
+}
+
+/* A state of any key, H, I and S, for a file of n bytes. */
+static void any_state(uint8_t *state, uint64_t n) {
+    fill(state, SECRET_STATE);
+    big_endian(state + 64, n, 8);
+    big_endian(state + 72, 7, 4);
+    big_endian(state + 76, 41, 8);
+}
+
+/* The block calls: two inputs and 16 bytes of output. */
+typedef uint64_t block_call(const uint8_t *, size_t, const uint8_t *, size_t, uint8_t *, size_t);
+
+static void on_blocks(block_call *call) {
+    for (int i = 0; i < 3; i++) {
+        uint8_t a[16], b[16], plain[16], out[16];
+        fill(a, 16);
+        fill(b, 16);
+        answered(call(a, 16, b, 16, plain, 16), 0);
+        hide(a, 16);
+        hide(b, 16);
+        answered(call(a, 16, b, 16, out, 16), 0);
+        must_be_secret(out, 16, "no secret in a block");
+        reveal(out, 16);
+        must_be_same(out, plain, 16, "another block");
+        answered(call(a, 15, b, 16, out, 16), 1);
+        answered(call(a, 16, b, 16, out, 15), 7);
+    }
+}
+
+static void on_ghash(void) {
+    for (size_t i = 0; i < LENGTHS; i++)
+        for (size_t j = 0; j < LENGTHS; j++) {
+            uint8_t h[16], a[MOST], c[MOST], plain[16], out[16];
+            fill(h, 16);
+            fill(a, MOST);
+            fill(c, MOST);
+            answered(armfile_ghash(h, 16, a, lengths[i], c, lengths[j], plain, 16), 0);
+            hide(h, 16);
+            hide(a, MOST);
+            hide(c, MOST);
+            answered(armfile_ghash(h, 16, a, lengths[i], c, lengths[j], out, 16), 0);
+            if (lengths[i] + lengths[j] > 0)
+                must_be_secret(out, 16, "no secret in a hash");
+            reveal(out, 16);
+            must_be_same(out, plain, 16, "another hash");
+        }
+}
+
+/* An edit by number, with its bytes given twice to a change. */
+static uint64_t edit(int kind, uint8_t *state, uint64_t p, const uint8_t *old, const uint8_t *new, size_t l, uint64_t *count) {
+    switch (kind) {
+    case 0: return armfile_change(state, p, old, l, new, l, count);
+    case 1: return armfile_append(state, new, l, count);
+    case 2: return armfile_prepend(state, new, l, count);
+    case 3: return armfile_drop_front(state, old, l, count);
+    default: return armfile_cut_tail(state, old, l, count);
+    }
+}
+
+static void one_edit(int kind, uint64_t n, uint64_t p, size_t l) {
+    uint8_t state[STATE], plain[STATE], old[MOST], new[MOST];
+    uint64_t count = 0, plain_count = 0;
+    any_state(state, n);
+    memcpy(plain, state, STATE);
+    fill(old, MOST);
+    fill(new, MOST);
+    uint64_t expected = edit(kind, plain, p, old, new, l, &plain_count);
+    calls++;
+    hide(state, SECRET_STATE);
+    hide(old, MOST);
+    hide(new, MOST);
+    answered(edit(kind, state, p, old, new, l, &count), expected);
+    must_be_public(&count, sizeof count, "a count depends on a secret");
+    must_be_public(state + SECRET_STATE, STATE - SECRET_STATE, "a length or number depends on a secret");
+    must_be_secret(state + 48, 16, "no secret in a sum");
+    reveal(state, STATE);
+    must_be_same(state, plain, STATE, "another state");
+    if (count != plain_count)
+        fail("another count");
+}
+
+/* Accepted and refused edits, of short files, of a long one and of one past the limit. */
+static void on_edits(void) {
+    const uint64_t files[] = {0, 40, 64, 1000, LIMIT - 20, LIMIT + 1};
+    for (size_t f = 0; f < sizeof files / sizeof files[0]; f++)
+        for (size_t i = 0; i < LENGTHS; i++) {
+            for (int kind = 1; kind < 5; kind++)
+                one_edit(kind, files[f], 0, lengths[i]);
+            one_edit(0, files[f], 0, lengths[i]);
+            one_edit(0, files[f], 17, lengths[i]);
+            one_edit(0, files[f], files[f], lengths[i]);
+        }
+}
+
+/* The nonce is public. */
+static void on_gmac(void) {
+    const size_t nonces[] = {1, 12, 16, 17};
+    for (size_t i = 0; i < LENGTHS; i++)
+        for (size_t j = 0; j < 4; j++) {
+            uint8_t key[16], nonce[17], a[MOST], plain[16], out[16];
+            fill(key, 16);
+            fill(nonce, 17);
+            fill(a, MOST);
+            answered(armfile_gmac(key, 16, nonce, nonces[j], a, lengths[i], plain, 16), 0);
+            hide(key, 16);
+            hide(a, MOST);
+            answered(armfile_gmac(key, 16, nonce, nonces[j], a, lengths[i], out, 16), 0);
+            must_be_secret(out, 16, "no secret in a tag");
+            reveal(out, 16);
+            must_be_same(out, plain, 16, "another tag");
+        }
+}
+
+static void on_start_and_read(void) {
+    for (size_t i = 0; i < LENGTHS; i++) {
+        uint8_t key[16], file[MOST], plain[STATE], plain_start[STATE], state[STATE];
+        fill(key, 16);
+        fill(file, MOST);
+        answered(armfile_start(key, 16, 7, 41, lengths[i], plain_start), 0);
+        answered(armfile_read(key, 16, 7, 41, file, lengths[i], plain), 0);
+        hide(key, 16);
+        hide(file, MOST);
+        answered(armfile_start(key, 16, 7, 41, lengths[i], state), 0);
+        must_be_secret(state, 48, "no secret in the key, H or I");
+        must_be_public(state + SECRET_STATE, STATE - SECRET_STATE, "a length or number depends on a secret");
+        reveal(state, STATE);
+        must_be_same(state, plain_start, STATE, "another state");
+        answered(armfile_read(key, 16, 7, 41, file, lengths[i], state), 0);
+        must_be_secret(state, lengths[i] == 0 ? 48 : SECRET_STATE, "no secret in the key, H, I or S");
+        must_be_public(state + SECRET_STATE, STATE - SECRET_STATE, "a length or number depends on a secret");
+        reveal(state, STATE);
+        must_be_same(state, plain, STATE, "another state");
+        answered(armfile_start(key, 15, 7, 41, 0, state), 1);
+        answered(armfile_start(key, 16, 7, 41, LIMIT + 1, state), 2);
+    }
+}
+
+static void on_seal(void) {
+    const uint64_t files[] = {0, 40, LIMIT};
+    for (size_t f = 0; f < 3; f++) {
+        uint8_t state[STATE], plain[STATE], slip[SLIP], plain_slip[SLIP];
+        any_state(state, files[f]);
+        memcpy(plain, state, STATE);
+        answered(armfile_seal(plain, plain_slip, SLIP), 0);
+        hide(state, SECRET_STATE);
+        answered(armfile_seal(state, slip, SLIP), 0);
+        must_be_public(slip, SLIP_HEAD, "a slip's head depends on a secret");
+        must_be_secret(slip + SLIP_HEAD, SLIP - SLIP_HEAD, "no secret in a tag");
+        must_be_public(state + SECRET_STATE, STATE - SECRET_STATE, "a length or number depends on a secret");
+        reveal(slip, SLIP);
+        must_be_same(slip, plain_slip, SLIP, "another slip");
+        answered(armfile_seal(state, slip, SLIP - 1), 7);
+        big_endian(state + 76, UINT64_MAX, 8);
+        answered(armfile_seal(state, slip, SLIP), 6);
+        reveal(state, SECRET_STATE);
+        must_be_same(state, plain, SECRET_STATE, "another state");
+    }
+}
+
+/* A check of a slip with one bit turned, or of the slip itself (bit -1). Tags are compared where length and arm are right. */
+static void one_check(const uint8_t *sealed, const uint8_t *genuine, int bit) {
+    int compares = bit < 0 || bit >= 96;
+    uint8_t state[STATE], slip[SLIP], verdict = 2;
+    memcpy(state, sealed, STATE);
+    memcpy(slip, genuine, SLIP);
+    if (bit >= 0)
+        slip[bit / 8] ^= 0x80 >> (bit % 8);
+    hide(state, SECRET_STATE);
+    unsigned before = VALGRIND_COUNT_ERRORS;
+    uint64_t answer = armfile_check(state, slip, SLIP, &verdict);
+    unsigned reports = VALGRIND_COUNT_ERRORS - before;
+    answered(answer, bit >= 0 && bit < 3 ? 8 : 0);
+    if (reports > (compares ? 1 : 0))
+        fail("a check jumps on less than the verdict");
+    if (all_bits(&verdict, 1, 0) != (reports == 1 || !compares))
+        fail("a verdict is not settled by check's one jump");
+    comparisons += compares;
+    jumps += reports;
+    reveal(&verdict, 1);
+    if (verdict != (answer != 0 ? 2 : bit < 0))
+        fail("another verdict");
+    reveal(state, STATE);
+    must_be_same(state, sealed, STATE, "another state");
+}
+
+static void on_check(void) {
+    uint8_t state[STATE], slip[SLIP], verdict = 2;
+    any_state(state, 40);
+    answered(armfile_seal(state, slip, SLIP), 0);
+    for (int bit = -1; bit < 8 * SLIP; bit++)
+        one_check(state, slip, bit);
+    hide(state, SECRET_STATE);
+    answered(armfile_check(state, slip, SLIP - 1, &verdict), 7);
+    printf("ct check: %u comparisons of tags, %u jumps, all on the verdict\n", comparisons, jumps);
+}
+
+/* The faults: memcheck must report them. */
+static volatile uint8_t table[256];
+static volatile unsigned sink;
+
+static void fault(int index) {
+    uint8_t key[16];
+    fill(key, 16);
+    hide(key, 16);
+    if (index)
+        sink = table[key[3]];
+    else if (key[3] & 1)
+        sink = 1;
+}
+
+int main(int argc, char **argv) {
+    if (!RUNNING_ON_VALGRIND)
+        fail("not run by valgrind");
+    const char *part = argc == 2 ? argv[1] : "";
+    if (strcmp(part, "field") == 0) {
+        on_blocks(armfile_multiply);
+        on_ghash();
+        on_edits();
+    } else if (strcmp(part, "cipher") == 0) {
+        on_blocks(armfile_encrypt);
+        on_gmac();
+        on_start_and_read();
+        on_seal();
+    } else if (strcmp(part, "check") == 0) {
+        on_check();
+    } else if (strcmp(part, "branch") == 0) {
+        fault(0);
+    } else if (strcmp(part, "index") == 0) {
+        fault(1);
+    } else {
+        fail("ct field, cipher, check, branch or index");
+    }
+    printf("ct %s: %u calls\n", part, calls);
+    return 0;
+}

@@ -1,0 +1,275 @@
+//! The library's functions one for one, in the order and with the parameters
+//! of armfile.h, as safe functions: a slice stands for a pointer and a length,
+//! and the answer is the refusal number, or 0 for work done. A refused call
+//! leaves every lent buffer as it was.
+//!
+//! This module holds all the unsafe code of the wrapper. Each call is sound
+//! for the same reason: every pointer comes from a reference that lives
+//! through the call, with the length of what it refers to, so it is valid for
+//! that many bytes and, where it is `*mut`, for writes that nothing else sees.
+//! The library keeps no pointer, holds no data of its own and does not unwind.
+
+#![allow(unsafe_code)]
+
+/// The bytes of a lent state.
+pub const STATE_BYTES: usize = 84;
+
+/// A lent state: key 16, H 16, I 16, S 16, n 8, arm 4, last used number 8,
+/// each most significant byte first.
+pub type StateBytes = [u8; STATE_BYTES];
+
+/// armfile.h.
+mod c {
+    extern "C" {
+        pub fn armfile_encrypt(
+            key: *const u8,
+            key_len: usize,
+            block: *const u8,
+            block_len: usize,
+            out: *mut u8,
+            out_len: usize,
+        ) -> u64;
+        pub fn armfile_multiply(
+            a: *const u8,
+            a_len: usize,
+            b: *const u8,
+            b_len: usize,
+            out: *mut u8,
+            out_len: usize,
+        ) -> u64;
+        pub fn armfile_ghash(
+            h: *const u8,
+            h_len: usize,
+            a: *const u8,
+            a_len: usize,
+            c: *const u8,
+            c_len: usize,
+            out: *mut u8,
+            out_len: usize,
+        ) -> u64;
+        pub fn armfile_gmac(
+            key: *const u8,
+            key_len: usize,
+            nonce: *const u8,
+            nonce_len: usize,
+            a: *const u8,
+            a_len: usize,
+            out: *mut u8,
+            out_len: usize,
+        ) -> u64;
+        pub fn armfile_start(
+            key: *const u8,
+            key_len: usize,
+            arm: u32,
+            last: u64,
+            n: u64,
+            state: *mut u8,
+        ) -> u64;
+        pub fn armfile_read(
+            key: *const u8,
+            key_len: usize,
+            arm: u32,
+            last: u64,
+            file: *const u8,
+            file_len: usize,
+            state: *mut u8,
+        ) -> u64;
+        pub fn armfile_change(
+            state: *mut u8,
+            p: u64,
+            old: *const u8,
+            old_len: usize,
+            new: *const u8,
+            new_len: usize,
+            count: *mut u64,
+        ) -> u64;
+        pub fn armfile_append(
+            state: *mut u8,
+            bytes: *const u8,
+            bytes_len: usize,
+            count: *mut u64,
+        ) -> u64;
+        pub fn armfile_prepend(
+            state: *mut u8,
+            bytes: *const u8,
+            bytes_len: usize,
+            count: *mut u64,
+        ) -> u64;
+        pub fn armfile_drop_front(
+            state: *mut u8,
+            bytes: *const u8,
+            bytes_len: usize,
+            count: *mut u64,
+        ) -> u64;
+        pub fn armfile_cut_tail(
+            state: *mut u8,
+            bytes: *const u8,
+            bytes_len: usize,
+            count: *mut u64,
+        ) -> u64;
+        pub fn armfile_seal(state: *mut u8, slip: *mut u8, slip_len: usize) -> u64;
+        pub fn armfile_check(
+            state: *mut u8,
+            slip: *const u8,
+            slip_len: usize,
+            verdict: *mut u8,
+        ) -> u64;
+    }
+}
+
+/// Lent where a slice is empty. Such a slice's own pointer is not null, but
+/// armfile.h asks for that of an object. Nothing is read or written there.
+static NOTHING: u8 = 0;
+
+fn pointer(bytes: &[u8]) -> *const u8 {
+    if bytes.is_empty() {
+        return &NOTHING;
+    }
+    bytes.as_ptr()
+}
+
+fn pointer_mut(bytes: &mut [u8]) -> *mut u8 {
+    if bytes.is_empty() {
+        return std::ptr::from_ref(&NOTHING).cast_mut();
+    }
+    bytes.as_mut_ptr()
+}
+
+/// `armfile_encrypt`: [`crate::encrypt`].
+pub fn encrypt(key: &[u8], block: &[u8], out: &mut [u8]) -> u64 {
+    // SAFETY: as said at the module's head.
+    unsafe {
+        c::armfile_encrypt(
+            pointer(key),
+            key.len(),
+            pointer(block),
+            block.len(),
+            pointer_mut(out),
+            out.len(),
+        )
+    }
+}
+
+/// `armfile_multiply`: [`crate::multiply`].
+pub fn multiply(a: &[u8], b: &[u8], out: &mut [u8]) -> u64 {
+    // SAFETY: as said at the module's head.
+    unsafe {
+        c::armfile_multiply(
+            pointer(a),
+            a.len(),
+            pointer(b),
+            b.len(),
+            pointer_mut(out),
+            out.len(),
+        )
+    }
+}
+
+/// `armfile_ghash`: [`crate::ghash`].
+pub fn ghash(h: &[u8], a: &[u8], c: &[u8], out: &mut [u8]) -> u64 {
+    // SAFETY: as said at the module's head.
+    unsafe {
+        c::armfile_ghash(
+            pointer(h),
+            h.len(),
+            pointer(a),
+            a.len(),
+            pointer(c),
+            c.len(),
+            pointer_mut(out),
+            out.len(),
+        )
+    }
+}
+
+/// `armfile_gmac`: [`crate::gmac`].
+pub fn gmac(key: &[u8], nonce: &[u8], a: &[u8], out: &mut [u8]) -> u64 {
+    // SAFETY: as said at the module's head.
+    unsafe {
+        c::armfile_gmac(
+            pointer(key),
+            key.len(),
+            pointer(nonce),
+            nonce.len(),
+            pointer(a),
+            a.len(),
+            pointer_mut(out),
+            out.len(),
+        )
+    }
+}
+
+/// `armfile_start`: [`crate::State::start`].
+pub fn start(key: &[u8], arm: u32, last: u64, n: u64, state: &mut StateBytes) -> u64 {
+    // SAFETY: as said at the module's head.
+    unsafe { c::armfile_start(pointer(key), key.len(), arm, last, n, state.as_mut_ptr()) }
+}
+
+/// `armfile_read`: [`crate::State::read`].
+pub fn read(key: &[u8], arm: u32, last: u64, file: &[u8], state: &mut StateBytes) -> u64 {
+    // SAFETY: as said at the module's head.
+    unsafe {
+        c::armfile_read(
+            pointer(key),
+            key.len(),
+            arm,
+            last,
+            pointer(file),
+            file.len(),
+            state.as_mut_ptr(),
+        )
+    }
+}
+
+/// `armfile_change`: [`crate::State::change`].
+pub fn change(state: &mut StateBytes, p: u64, old: &[u8], new: &[u8], count: &mut u64) -> u64 {
+    // SAFETY: as said at the module's head.
+    unsafe {
+        c::armfile_change(
+            state.as_mut_ptr(),
+            p,
+            pointer(old),
+            old.len(),
+            pointer(new),
+            new.len(),
+            count,
+        )
+    }
+}
+
+/// `armfile_append`: [`crate::State::append`].
+pub fn append(state: &mut StateBytes, bytes: &[u8], count: &mut u64) -> u64 {
+    // SAFETY: as said at the module's head.
+    unsafe { c::armfile_append(state.as_mut_ptr(), pointer(bytes), bytes.len(), count) }
+}
+
+/// `armfile_prepend`: [`crate::State::prepend`].
+pub fn prepend(state: &mut StateBytes, bytes: &[u8], count: &mut u64) -> u64 {
+    // SAFETY: as said at the module's head.
+    unsafe { c::armfile_prepend(state.as_mut_ptr(), pointer(bytes), bytes.len(), count) }
+}
+
+/// `armfile_drop_front`: [`crate::State::drop_front`].
+pub fn drop_front(state: &mut StateBytes, bytes: &[u8], count: &mut u64) -> u64 {
+    // SAFETY: as said at the module's head.
+    unsafe { c::armfile_drop_front(state.as_mut_ptr(), pointer(bytes), bytes.len(), count) }
+}
+
+/// `armfile_cut_tail`: [`crate::State::cut_tail`].
+pub fn cut_tail(state: &mut StateBytes, bytes: &[u8], count: &mut u64) -> u64 {
+    // SAFETY: as said at the module's head.
+    unsafe { c::armfile_cut_tail(state.as_mut_ptr(), pointer(bytes), bytes.len(), count) }
+}
+
+/// `armfile_seal`: [`crate::State::seal`].
+pub fn seal(state: &mut StateBytes, slip: &mut [u8]) -> u64 {
+    // SAFETY: as said at the module's head.
+    unsafe { c::armfile_seal(state.as_mut_ptr(), pointer_mut(slip), slip.len()) }
+}
+
+/// `armfile_check`: [`crate::State::check`]. The state is lent for writing as
+/// everywhere in the interface, and stays as it was.
+pub fn check(state: &mut StateBytes, slip: &[u8], verdict: &mut u8) -> u64 {
+    // SAFETY: as said at the module's head.
+    unsafe { c::armfile_check(state.as_mut_ptr(), pointer(slip), slip.len(), verdict) }
+}

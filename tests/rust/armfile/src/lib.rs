@@ -1,0 +1,333 @@
+//! The seal of a robot arm's motion file, for controllers in Rust: a safe
+//! wrapper over the C library libarmfile.a.
+//!
+//! A controller keeps no motion file, only a [`State`] of 84 bytes. Changing,
+//! appending, prepending, dropping and cutting bytes moves the state without
+//! reading the file. A seal writes a slip of 36 bytes whose tag is AES-128
+//! GMAC of the whole file, and a check says whether a slip is genuine.
+//!
+//! ```
+//! use armfile::{State, SLIP_BYTES};
+//!
+//! # fn main() -> Result<(), armfile::Refusal> {
+//! let key = [7; 16]; // from the key store
+//! let mut state = State::read(&key, 3, 0, b"MOVE 10 20 30")?;
+//! state.append(b"; MOVE 0 0 0")?;
+//! state.change(5, b"10", b"11")?;
+//! let mut slip = [0; SLIP_BYTES];
+//! state.seal(&mut slip)?;
+//! assert!(state.check(&slip)?);
+//! state.cut_tail(b"; MOVE 0 0 0")?;
+//! assert!(!state.check(&slip)?);
+//! # Ok(())
+//! # }
+//! ```
+//!
+//! Every call either does its work or is refused with a [`Refusal`], and a
+//! refused call leaves the state and every lent buffer as they were. The
+//! library proves what it answers; what this wrapper adds is that lengths are
+//! those of the slices.
+//!
+//! The state's layout is provisional until keys of both sizes are in: don't
+//! carry stored states from one version of the library to another.
+
+#![deny(unsafe_code)]
+
+use std::fmt;
+
+pub mod ffi;
+
+pub use ffi::{StateBytes, STATE_BYTES};
+
+/// The bytes of a slip.
+pub const SLIP_BYTES: usize = 36;
+
+/// The bytes of a key, of the hash key, of a block and of a tag.
+pub const BLOCK_BYTES: usize = 16;
+
+/// The largest byte length of a file, of A, of C and of a nonce: 2^61 - 1.
+pub const MAX_BYTES: u64 = (1 << 61) - 1;
+
+/// Why a call was refused.
+#[derive(Clone, Copy, Debug, PartialEq, Eq, Hash)]
+pub enum Refusal {
+    /// 1: key, hash key or block not 16 bytes.
+    KeyOrBlockLength,
+    /// 2: file, A, C or nonce would pass 2^61 - 1 bytes.
+    TooLong,
+    /// 3: the bytes to change or to remove are not all in the file.
+    OutOfFile,
+    /// 4: old and new differ in length.
+    UnequalPair,
+    /// 5: the length to prepend or to drop is no multiple of 16.
+    BrokenBlock,
+    /// 6: the last used number is 2^64 - 1, so no number is left.
+    NumbersUsed,
+    /// 7: slip not 36 bytes, or tag or block output not 16.
+    OutputLength,
+    /// 8: slip version not 1.
+    SlipVersion,
+    /// 9: empty nonce.
+    EmptyNonce,
+    /// A number that this wrapper doesn't know, which only a library of
+    /// another version answers.
+    Unknown(u64),
+}
+
+/// The causes with their numbers and what is wrong.
+const CAUSES: [(Refusal, u64, &str); 9] = [
+    (Refusal::KeyOrBlockLength, 1, "key or block not 16 bytes"),
+    (Refusal::TooLong, 2, "more than 2^61 - 1 bytes"),
+    (Refusal::OutOfFile, 3, "bytes outside the file"),
+    (Refusal::UnequalPair, 4, "old and new differ in length"),
+    (Refusal::BrokenBlock, 5, "length no multiple of 16"),
+    (Refusal::NumbersUsed, 6, "no seal number left"),
+    (Refusal::OutputLength, 7, "buffer of the wrong length"),
+    (Refusal::SlipVersion, 8, "slip version not 1"),
+    (Refusal::EmptyNonce, 9, "empty nonce"),
+];
+
+impl Refusal {
+    /// The number of the cause, as the library answers it.
+    pub fn number(self) -> u64 {
+        match self {
+            Refusal::Unknown(number) => number,
+            known => CAUSES.iter().find(|c| c.0 == known).map_or(0, |c| c.1),
+        }
+    }
+
+    /// The library's answer as a result.
+    fn of(answer: u64) -> Result<(), Refusal> {
+        if answer == 0 {
+            return Ok(());
+        }
+        let known = CAUSES.iter().find(|c| c.1 == answer);
+        Err(known.map_or(Refusal::Unknown(answer), |c| c.0))
+    }
+}
+
+impl fmt::Display for Refusal {
+    fn fmt(&self, f: &mut fmt::Formatter) -> fmt::Result {
+        let known = CAUSES.iter().find(|c| c.0 == *self);
+        let cause = known.map_or("unknown cause", |c| c.2);
+        write!(f, "refused {}: {cause}", self.number())
+    }
+}
+
+impl std::error::Error for Refusal {}
+
+/// AES-128 of a block under a key, FIPS 197, written to `out`. All three are
+/// 16 bytes. Refusals, in this order: 1, 7.
+pub fn encrypt(key: &[u8], block: &[u8], out: &mut [u8]) -> Result<(), Refusal> {
+    Refusal::of(ffi::encrypt(key, block, out))
+}
+
+/// The product of two blocks in the field of GCM, SP 800-38D section 6.3,
+/// written to `out`. All three are 16 bytes. Refusals, in this order: 1, 7.
+pub fn multiply(a: &[u8], b: &[u8], out: &mut [u8]) -> Result<(), Refusal> {
+    Refusal::of(ffi::multiply(a, b, out))
+}
+
+/// GHASH(H, A, C) as GCM has it: over A padded, C padded and their two bit
+/// lengths, SP 800-38D sections 6.4 and 7.1, written to the 16 bytes of
+/// `out`. Refusals, in this order: 1, 7, 2.
+pub fn ghash(h: &[u8], a: &[u8], c: &[u8], out: &mut [u8]) -> Result<(), Refusal> {
+    Refusal::of(ffi::ghash(h, a, c, out))
+}
+
+/// GMAC of A under a key and a nonce of one byte or more, SP 800-38D, written
+/// to the 16 bytes of `out`. Never use a nonce twice with one key. Refusals,
+/// in this order: 1, 9, 7, 2.
+pub fn gmac(key: &[u8], nonce: &[u8], a: &[u8], out: &mut [u8]) -> Result<(), Refusal> {
+    Refusal::of(ffi::gmac(key, nonce, a, out))
+}
+
+/// What a controller holds for a file: the key, the hash key and its
+/// companion, the running sum, the file's length, the arm number and the last
+/// used seal number.
+///
+/// A state can't be cloned: two copies that seal would use one number twice,
+/// and a repeated number gives the hash key away. For the same reason a state
+/// brought back by [`State::from_bytes`] must be the last one stored.
+///
+/// A state may hold any bytes. If its length passes 2^61 - 1, every call of
+/// it is refused with 2 before all else; the refusals named at each call come
+/// after that one.
+pub struct State {
+    bytes: StateBytes,
+}
+
+impl State {
+    /// The state of a file of `n` zero bytes, for the arm with this number,
+    /// with `last` the last used seal number: 0 for a new arm and key.
+    /// Refusals, in this order: 1, 2.
+    pub fn start(key: &[u8], arm: u32, last: u64, n: u64) -> Result<State, Refusal> {
+        let mut bytes = [0; STATE_BYTES];
+        Refusal::of(ffi::start(key, arm, last, n, &mut bytes))?;
+        Ok(State { bytes })
+    }
+
+    /// The state of a lent file, which is read once and not kept. Refusals,
+    /// in this order: 1, 2.
+    pub fn read(key: &[u8], arm: u32, last: u64, file: &[u8]) -> Result<State, Refusal> {
+        let mut bytes = [0; STATE_BYTES];
+        Refusal::of(ffi::read(key, arm, last, file, &mut bytes))?;
+        Ok(State { bytes })
+    }
+
+    /// A state stored earlier by [`State::as_bytes`].
+    pub fn from_bytes(bytes: StateBytes) -> State {
+        State { bytes }
+    }
+
+    /// The state's bytes, to store. They hold the key: keep them as secret.
+    pub fn as_bytes(&self) -> &StateBytes {
+        &self.bytes
+    }
+
+    /// The byte length of the file.
+    pub fn length(&self) -> u64 {
+        u64::from_be_bytes(self.part(64))
+    }
+
+    /// The arm number.
+    pub fn arm(&self) -> u32 {
+        u32::from_be_bytes(self.part(72))
+    }
+
+    /// The last used seal number.
+    pub fn last_used(&self) -> u64 {
+        u64::from_be_bytes(self.part(76))
+    }
+
+    /// The bytes from `p` on, until now `old`, become `new`. `old` must be
+    /// what the file holds there; the controller can't tell, but the slips
+    /// sealed after an untrue edit fit no file that anyone has. Returns the
+    /// count of multiplications. Refusals, in this order: 4, 3.
+    pub fn change(&mut self, p: u64, old: &[u8], new: &[u8]) -> Result<u64, Refusal> {
+        let mut count = 0;
+        Refusal::of(ffi::change(&mut self.bytes, p, old, new, &mut count))?;
+        Ok(count)
+    }
+
+    /// The bytes go after the file's last. Returns the count of
+    /// multiplications. Refusal: 2.
+    pub fn append(&mut self, bytes: &[u8]) -> Result<u64, Refusal> {
+        let mut count = 0;
+        Refusal::of(ffi::append(&mut self.bytes, bytes, &mut count))?;
+        Ok(count)
+    }
+
+    /// The bytes, whole blocks of 16, go before the file's first. Returns the
+    /// count of multiplications. Refusals, in this order: 5, 2.
+    pub fn prepend(&mut self, bytes: &[u8]) -> Result<u64, Refusal> {
+        let mut count = 0;
+        Refusal::of(ffi::prepend(&mut self.bytes, bytes, &mut count))?;
+        Ok(count)
+    }
+
+    /// The bytes, whole blocks of 16, leave the file's front, where they must
+    /// stand. Returns the count of multiplications. Refusals, in this order:
+    /// 5, 3.
+    pub fn drop_front(&mut self, bytes: &[u8]) -> Result<u64, Refusal> {
+        let mut count = 0;
+        Refusal::of(ffi::drop_front(&mut self.bytes, bytes, &mut count))?;
+        Ok(count)
+    }
+
+    /// The bytes leave the file's end, where they must stand. Returns the
+    /// count of multiplications. Refusal: 3.
+    pub fn cut_tail(&mut self, bytes: &[u8]) -> Result<u64, Refusal> {
+        let mut count = 0;
+        Refusal::of(ffi::cut_tail(&mut self.bytes, bytes, &mut count))?;
+        Ok(count)
+    }
+
+    /// Seals the file: the last used number rises by one, and the 36 bytes of
+    /// `slip` become the slip with that number. Store the state before the
+    /// slip leaves the controller, or a number may be used twice. Refusals, in
+    /// this order: 7, 6.
+    pub fn seal(&mut self, slip: &mut [u8]) -> Result<(), Refusal> {
+        Refusal::of(ffi::seal(&mut self.bytes, slip))
+    }
+
+    /// Whether a slip is genuine: its length and arm are the state's, and its
+    /// tag is the file's under its own number. Refusals, in this order: 7, 8.
+    pub fn check(&self, slip: &[u8]) -> Result<bool, Refusal> {
+        let mut lent = self.bytes;
+        let mut verdict = 0;
+        Refusal::of(ffi::check(&mut lent, slip, &mut verdict))?;
+        Ok(verdict == 1)
+    }
+
+    fn part<const L: usize>(&self, first: usize) -> [u8; L] {
+        std::array::from_fn(|i| self.bytes[first + i])
+    }
+}
+
+/// Shows what is no secret.
+impl fmt::Debug for State {
+    fn fmt(&self, f: &mut fmt::Formatter) -> fmt::Result {
+        f.debug_struct("State")
+            .field("length", &self.length())
+            .field("arm", &self.arm())
+            .field("last_used", &self.last_used())
+            .finish_non_exhaustive()
+    }
+}
+
+#[cfg(test)]
+mod tests {
+    use super::*;
+
+    #[test]
+    fn numbers_of_refusals() {
+        for number in 0..20 {
+            let back = Refusal::of(number).map_or_else(Refusal::number, |()| 0);
+            assert_eq!(back, number);
+        }
+        assert_eq!(Refusal::of(10), Err(Refusal::Unknown(10)));
+        let shown = Refusal::BrokenBlock.to_string();
+        assert_eq!(shown, "refused 5: length no multiple of 16");
+    }
+
+    /// Each cause, brought about, has its name.
+    #[test]
+    fn names_of_refusals() {
+        let key = [1; 16];
+        let mut out = [0; 16];
+        let short = encrypt(&key[1..], &key, &mut out);
+        assert_eq!(short, Err(Refusal::KeyOrBlockLength));
+        let no_nonce = gmac(&key, &[], &key, &mut out);
+        assert_eq!(no_nonce, Err(Refusal::EmptyNonce));
+        let long = State::start(&key, 2, 3, MAX_BYTES + 1).map(|_| ());
+        assert_eq!(long, Err(Refusal::TooLong));
+        let mut state = State::start(&key, 2, u64::MAX, 40).unwrap();
+        assert_eq!(state.change(40, b"a", b"b"), Err(Refusal::OutOfFile));
+        assert_eq!(state.change(0, b"a", b""), Err(Refusal::UnequalPair));
+        assert_eq!(state.prepend(b"a"), Err(Refusal::BrokenBlock));
+        assert_eq!(state.seal(&mut [0; 35]), Err(Refusal::OutputLength));
+        assert_eq!(state.seal(&mut [0; 36]), Err(Refusal::NumbersUsed));
+        assert_eq!(state.check(&[0; 36]), Err(Refusal::SlipVersion));
+    }
+
+    #[test]
+    fn public_fields_are_shown_and_secret_ones_are_not() {
+        let state = State::start(&[0x77; 16], 5, 6, 40).unwrap();
+        let shown = format!("{state:?}");
+        assert_eq!(shown, "State { length: 40, arm: 5, last_used: 6, .. }");
+    }
+
+    #[test]
+    fn empty_slices() {
+        let empty: &[u8] = &[];
+        let mut state = State::read(&[1; 16], 2, 3, empty).unwrap();
+        assert_eq!(state.change(0, empty, empty), Ok(0));
+        assert_eq!(state.append(empty), Ok(0));
+        assert_eq!(state.prepend(empty), Ok(0));
+        assert_eq!(state.drop_front(empty), Ok(0));
+        assert_eq!(state.cut_tail(empty), Ok(0));
+        assert_eq!(state.seal(&mut []), Err(Refusal::OutputLength));
+        assert_eq!(state.check(empty), Err(Refusal::OutputLength));
+    }
+}

@@ -1,0 +1,148 @@
+//! Cases: seeds, counts and the report of a failing case.
+//!
+//! The inputs of a case follow from its seed alone, a decimal number: the last
+//! six digits are the case's index in its part, the three before them the
+//! part's number, and what is left the round. COMPARE_SEED runs one case
+//! again; COMPARE_ROUND, a number, takes other random inputs.
+
+use std::time::Instant;
+
+use reference::random::Random;
+
+use crate::call::{Call, Lent};
+use crate::say;
+
+/// A part of the comparison: its name, how many cases it has, and a case.
+pub type Part = (&'static str, u64, fn(&mut Case));
+
+/// How many calls were answered by each number, from 0 to 9.
+#[derive(Clone, Copy, Default)]
+pub struct Tally([u64; 10]);
+
+impl Tally {
+    fn calls(&self) -> u64 {
+        self.0.iter().sum()
+    }
+
+    fn add(&mut self, other: Tally) {
+        for (count, more) in self.0.iter_mut().zip(other.0) {
+            *count += more;
+        }
+    }
+}
+
+/// One case: its random generator, and a tally of the calls it has made.
+pub struct Case {
+    pub random: Random,
+    seed: u64,
+    tally: Tally,
+    latest: Option<(Call, Lent)>,
+}
+
+impl Case {
+    fn new(seed: u64) -> Case {
+        Case {
+            random: Random::new(seed),
+            seed,
+            tally: Tally::default(),
+            latest: None,
+        }
+    }
+
+    /// The index of the case in its part, from 0 on.
+    pub fn index(&self) -> u64 {
+        self.seed % 1_000_000
+    }
+
+    /// Makes a call by the library, by its wrapper and by `reference`, holds
+    /// them to the same outcome, and leaves in `lent` what it is afterwards.
+    /// Returns 0 or the refusal number.
+    pub fn call(&mut self, call: &Call, lent: &mut Lent) -> u64 {
+        self.latest = Some((call.clone(), lent.clone()));
+        let lead = self.random.below(16) as usize;
+        let expected = call.by_reference(lent);
+        let outcome = call.by_library(lent, lead);
+        let (answer, after) = outcome.unwrap_or_else(|fault| panic!("the library {fault}"));
+        if (answer, &after) != (expected.0, &expected.1) {
+            panic!(
+                "not the same\n  library   answers {answer}, {after}\n  \
+                 reference answers {}, {}",
+                expected.0, expected.1
+            );
+        }
+        let (answer, after) = call.by_wrapper(lent);
+        if (answer, &after) != (expected.0, &expected.1) {
+            panic!("the wrapper answers {answer}, {after}, unlike the library");
+        }
+        self.tally.0[answer as usize] += 1;
+        *lent = after;
+        answer
+    }
+}
+
+/// Reports the case where a panic ends it.
+impl Drop for Case {
+    fn drop(&mut self) {
+        if !std::thread::panicking() {
+            return;
+        }
+        let calls = self.tally.calls();
+        say(&format!("failed after {calls} calls of this case"));
+        if let Some((call, lent)) = &self.latest {
+            say(&format!("  latest {call}\n  before {lent}"));
+        }
+        let seed = self.seed;
+        say(&format!(
+            "again: COMPARE_SEED={seed} cargo test --offline -p compare --test compare"
+        ));
+    }
+}
+
+/// A number from the environment, if it is set.
+fn given(name: &str) -> Option<u64> {
+    let text = std::env::var(name).ok()?;
+    Some(
+        text.parse()
+            .unwrap_or_else(|_| panic!("{name} is not a number")),
+    )
+}
+
+/// Runs the parts, or the one case that COMPARE_SEED names. All of them make
+/// at least so many calls, and each number is answered by some.
+pub fn run(parts: &[Part], least: u64) {
+    if let Some(seed) = given("COMPARE_SEED") {
+        let number = (seed / 1_000_000 % 1_000) as usize;
+        let (name, _, run) = parts.get(number).expect("COMPARE_SEED names no part");
+        say(&format!("{name}: the case of seed {seed}"));
+        let mut case = Case::new(seed);
+        run(&mut case);
+        say(&format!("{} calls, all the same", case.tally.calls()));
+        return;
+    }
+    let round = given("COMPARE_ROUND").unwrap_or(0);
+    let begin = Instant::now();
+    let mut total = Tally::default();
+    for (number, (name, cases, run)) in parts.iter().enumerate() {
+        let part_begin = Instant::now();
+        let first = round * 1_000_000_000 + number as u64 * 1_000_000;
+        let mut tally = Tally::default();
+        for seed in first..first + cases {
+            let mut case = Case::new(seed);
+            run(&mut case);
+            tally.add(case.tally);
+        }
+        let (last, calls) = (first + cases - 1, tally.calls());
+        let seconds = part_begin.elapsed().as_secs_f64();
+        say(&format!(
+            "{name}: seeds {first} to {last}, {calls} calls, {seconds:.1} s"
+        ));
+        total.add(tally);
+    }
+    let (calls, seconds) = (total.calls(), begin.elapsed().as_secs_f64());
+    say(&format!("calls by their answers, 0 to 9: {:?}", total.0));
+    say(&format!(
+        "{calls} calls compared with the second implementation, in {seconds:.1} s"
+    ));
+    assert!(calls >= least, "fewer than {least} calls");
+    assert!(!total.0.contains(&0), "an answer that no call had");
+}

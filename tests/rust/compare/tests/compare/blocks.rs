@@ -1,0 +1,101 @@
+//! The calls without a state.
+
+use compare::{Call, Case, Lent};
+
+use crate::choose::{block, output, LENGTHS, SIZES};
+
+/// x^i times x^j for all j, i the case's index. The product is linear in each
+/// factor, so these are all that its steps can do.
+pub fn single_bits(case: &mut Case) {
+    let bit = |i: usize| {
+        let mut block = vec![0; 16];
+        block[i / 8] = 0x80 >> (i % 8);
+        block
+    };
+    for j in 0..128 {
+        let call = Call::Multiply {
+            a: bit(case.index() as usize),
+            b: bit(j),
+        };
+        with_output(case, &call, 16);
+    }
+}
+
+/// Makes a block call with an output of this size.
+fn with_output(case: &mut Case, call: &Call, size: usize) {
+    let mut lent = Lent::new();
+    lent.out = output(&mut case.random, size);
+    case.call(call, &mut lent);
+}
+
+pub fn blocks(case: &mut Case) {
+    let [key, a, b] = [(); 3].map(|()| block(&mut case.random));
+    let encrypt = Call::Encrypt {
+        key,
+        block: a.clone(),
+    };
+    with_output(case, &encrypt, 16);
+    with_output(case, &Call::Multiply { a, b }, 16);
+}
+
+/// A of the case's length, with C or the nonce of each length.
+pub fn edge_lengths(case: &mut Case) {
+    let length = LENGTHS[case.index() as usize];
+    for other in LENGTHS {
+        hashes(case, length, other);
+    }
+}
+
+pub fn random_lengths(case: &mut Case) {
+    let [length, other] = [(); 2].map(|()| case.random.below(100) as usize);
+    hashes(case, length, other);
+}
+
+fn hashes(case: &mut Case, a_length: usize, other: usize) {
+    let key = block(&mut case.random);
+    let a = case.random.bytes(a_length);
+    let second = case.random.bytes(other);
+    let ghash = Call::Ghash {
+        h: key.clone(),
+        a: a.clone(),
+        c: second.clone(),
+    };
+    with_output(case, &ghash, 16);
+    let nonce = second;
+    with_output(case, &Call::Gmac { key, nonce, a }, 16);
+}
+
+/// Outputs of the case's size, with keys and blocks or nonces of each size.
+pub fn wrong_lengths(case: &mut Case) {
+    let size = SIZES[case.index() as usize];
+    for first in SIZES {
+        for second in SIZES {
+            let one = case.random.bytes(first);
+            let two = case.random.bytes(second);
+            let three = case.random.bytes(20);
+            let calls = [
+                Call::Encrypt {
+                    key: one.clone(),
+                    block: two.clone(),
+                },
+                Call::Multiply {
+                    a: one.clone(),
+                    b: two.clone(),
+                },
+                Call::Ghash {
+                    h: one.clone(),
+                    a: two.clone(),
+                    c: three.clone(),
+                },
+                Call::Gmac {
+                    key: one,
+                    nonce: two,
+                    a: three,
+                },
+            ];
+            for call in calls {
+                with_output(case, &call, size);
+            }
+        }
+    }
+}

@@ -1,0 +1,90 @@
+//! The values that inputs are chosen from.
+
+use armfile::MAX_BYTES;
+use reference::random::Random;
+
+/// Byte lengths around those of blocks and of runs of blocks.
+pub const LENGTHS: [usize; 23] = [
+    0, 1, 2, 11, 12, 13, 15, 16, 17, 31, 32, 33, 47, 48, 49, 63, 64, 65, 128, 255, 256, 257, 1025,
+];
+
+/// Sizes of a lent buffer, around that of a block, of a longer key and of a
+/// slip.
+pub const SIZES: [usize; 13] = [0, 1, 2, 8, 15, 16, 17, 24, 31, 32, 33, 36, 64];
+
+/// Lengths of a file, around blocks and the limit.
+pub const FILE_LENGTHS: [u64; 14] = [
+    0,
+    1,
+    15,
+    16,
+    17,
+    40,
+    1 << 32,
+    (1 << 60) + 5,
+    MAX_BYTES - 16,
+    MAX_BYTES - 1,
+    MAX_BYTES,
+    MAX_BYTES + 1,
+    1 << 63,
+    u64::MAX,
+];
+
+/// Seal numbers at both ends.
+pub const NUMBERS: [u64; 7] = [0, 1, 255, 1 << 32, u64::MAX - 2, u64::MAX - 1, u64::MAX];
+
+/// Arm numbers at both ends.
+pub const ARMS: [u32; 4] = [0, 7, 1 << 31, u32::MAX];
+
+/// One of the values.
+pub fn one_of<T: Copy>(random: &mut Random, values: &[T]) -> T {
+    values[random.below(values.len() as u64) as usize]
+}
+
+/// A block: random, or one of zeros, of ones, with one bit or with one byte.
+pub fn block(random: &mut Random) -> Vec<u8> {
+    let mut block = vec![0; 16];
+    match random.below(8) {
+        0 => {}
+        1 => block.fill(0xff),
+        2 => block[random.below(16) as usize] = 0x80 >> random.below(8),
+        3 => block[random.below(16) as usize] = random.number() as u8,
+        _ => block = random.bytes(16),
+    }
+    block
+}
+
+/// Up to `limit` - 1 random bytes, and often only a few.
+pub fn some_bytes(random: &mut Random, limit: u64) -> Vec<u8> {
+    let limit = if random.once_in(2) { 4 } else { limit };
+    let count = random.below(limit) as usize;
+    random.bytes(count)
+}
+
+/// Up to four blocks of random bytes; once in ten some other count of bytes.
+pub fn some_blocks(random: &mut Random) -> Vec<u8> {
+    let mut count = 16 * random.below(5);
+    if random.once_in(10) {
+        count += random.below(16);
+    }
+    random.bytes(count as usize)
+}
+
+/// An output of a size, filled with what a call must not leave or must leave.
+pub fn output(random: &mut Random, size: usize) -> Vec<u8> {
+    vec![random.number() as u8; size]
+}
+
+/// The file's first bytes, as many as `given` has room for.
+pub fn copy_front(file: &[u8], given: &mut [u8]) {
+    for (to, from) in given.iter_mut().zip(file) {
+        *to = *from;
+    }
+}
+
+/// The file's last bytes, as many as `given` has room for.
+pub fn copy_tail(file: &[u8], given: &mut [u8]) {
+    for (to, from) in given.iter_mut().rev().zip(file.iter().rev()) {
+        *to = *from;
+    }
+}

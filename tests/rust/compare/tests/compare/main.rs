@@ -1,0 +1,43 @@
+//! The library against the second implementation. Prints the seeds and the
+//! count of calls; a failing case prints the call and how to run it again.
+
+#![forbid(unsafe_code)]
+
+mod blocks;
+mod choose;
+mod edits;
+mod lists;
+mod slips;
+mod states;
+
+use compare::case::{run, Part};
+
+/// The parts in the order of their numbers, with their counts of cases.
+const PARTS: &[Part] = &[
+    ("products of single bits", 128, blocks::single_bits),
+    ("encrypt and multiply", 8_000, blocks::blocks),
+    ("ghash and gmac, edge lengths", 23, blocks::edge_lengths),
+    (
+        "ghash and gmac, random lengths",
+        2_000,
+        blocks::random_lengths,
+    ),
+    ("block calls, wrong lengths", 13, blocks::wrong_lengths),
+    ("start", 13, states::start),
+    ("read", 23, states::read),
+    ("every small edit", 50, edits::every_small_edit),
+    ("edits of edge lengths", 23, edits::edge_lengths),
+    ("edits near the limit", 60, edits::near_the_limit),
+    ("arbitrary states", 4_000, states::arbitrary),
+    ("lists of true calls", 800, lists::true_calls),
+    ("lists of calls true or not", 600, lists::calls_true_or_not),
+    ("lists on a long file", 400, lists::on_a_long_file),
+    ("slips with one bit turned", 40, slips::one_bit_turned),
+    ("slips of wrong lengths", 85, slips::wrong_lengths),
+    ("slips made by hand", 300, slips::made_by_hand),
+    ("the last numbers", 50, slips::last_numbers),
+];
+
+fn main() {
+    run(PARTS, 100_000);
+}

@@ -1,0 +1,121 @@
+//! The published NIST vectors through the library: AES-128, and GCM with a
+//! key of 128 bits and nonces of 8, 96 and 1024 bits.
+
+#![forbid(unsafe_code)]
+
+use std::collections::BTreeMap;
+
+use armfile::{encrypt, ghash, gmac};
+use compare::say;
+use vectors::{records, Record};
+
+type Block = [u8; 16];
+
+fn encrypted(key: &[u8], block: &[u8]) -> Block {
+    let mut out = [0; 16];
+    encrypt(key, block, &mut out).expect("a block");
+    out
+}
+
+fn hashed(h: &[u8], a: &[u8], c: &[u8]) -> Block {
+    let mut out = [0; 16];
+    ghash(h, a, c, &mut out).expect("a hash");
+    out
+}
+
+/// J, SP 800-38D section 7.1, step 2: the nonce and the number 1, or the
+/// nonce's GHASH.
+fn first_counter(h: &[u8], nonce: &[u8]) -> Block {
+    if nonce.len() != 12 {
+        return hashed(h, &[], nonce);
+    }
+    let mut block = [0; 16];
+    block[..12].copy_from_slice(nonce);
+    block[15] = 1;
+    block
+}
+
+/// The tag as GHASH(H, A, C) + AES(key, J).
+fn tag_by_parts(key: &[u8], nonce: &[u8], a: &[u8], c: &[u8]) -> Block {
+    let h = encrypted(key, &[0; 16]);
+    let hash = hashed(&h, a, c);
+    let mask = encrypted(key, &first_counter(&h, nonce));
+    std::array::from_fn(|i| hash[i] ^ mask[i])
+}
+
+#[test]
+fn aes_128() {
+    let records = records("aes-128.rsp");
+    assert_eq!(records.len(), 148);
+    let mut blocks = 0;
+    for record in &records {
+        let plain = record.bytes("plaintext");
+        let cipher = record.bytes("ciphertext");
+        assert_eq!(plain.len(), cipher.len());
+        assert!(!plain.is_empty() && plain.len().is_multiple_of(16));
+        for (block, expected) in plain.chunks(16).zip(cipher.chunks(16)) {
+            let answer = encrypted(&record.key(), block);
+            assert_eq!(answer, expected, "{:?}", record.values);
+            blocks += 1;
+        }
+    }
+    say(&format!("AES-128: 148 records, {blocks} blocks encrypted"));
+    assert_eq!(blocks, 168);
+}
+
+/// Whether the record's tag is the one computed. With no plaintext it is
+/// computed twice: by the GMAC call, and by its parts.
+fn tag_fits(record: &Record) -> bool {
+    let [iv, a, c] = ["iv", "aad", "ct"].map(|name| record.bytes(name));
+    assert_eq!(8 * iv.len(), record.number("ivlen"));
+    assert_eq!(8 * a.len(), record.number("aadlen"));
+    assert_eq!(8 * c.len(), record.number("ptlen"));
+    let computed = tag_by_parts(&record.key(), &iv, &a, &c);
+    if c.is_empty() {
+        let mut tag = [0; 16];
+        gmac(&record.key(), &iv, &a, &mut tag).expect("a tag");
+        assert_eq!(tag, computed, "{:?}", record.values);
+    }
+    let tag = record.bytes("tag");
+    assert_eq!(tag.len(), 16);
+    computed[..] == tag
+}
+
+/// The cases of a file: for each nonce length in bits how many go through
+/// GMAC and how many have a ciphertext, and how many of all must not fit.
+fn gcm(file: &str) -> (BTreeMap<usize, (usize, usize)>, usize) {
+    let mut counts = BTreeMap::new();
+    let mut fails = 0;
+    for record in &records(file) {
+        assert_eq!(tag_fits(record), !record.fails, "{:?}", record.values);
+        let count: &mut (usize, usize) = counts.entry(record.number("ivlen")).or_default();
+        if record.number("ptlen") == 0 {
+            count.0 += 1;
+        } else {
+            count.1 += 1;
+        }
+        fails += usize::from(record.fails);
+    }
+    for (ivlen, (gmacs, others)) in &counts {
+        say(&format!(
+            "{file}, nonce of {ivlen} bits: {gmacs} by GMAC, {others} by GHASH and AES"
+        ));
+    }
+    say(&format!("{file}: {fails} cases that must not fit"));
+    (counts, fails)
+}
+
+/// Each nonce length has 45 cases with no plaintext and 180 with one.
+fn nonce_lengths() -> BTreeMap<usize, (usize, usize)> {
+    BTreeMap::from([8, 96, 1024].map(|ivlen| (ivlen, (45, 180))))
+}
+
+#[test]
+fn gcm_encrypt_128() {
+    assert_eq!(gcm("gcm-encrypt-128.rsp"), (nonce_lengths(), 0));
+}
+
+#[test]
+fn gcm_decrypt_128() {
+    assert_eq!(gcm("gcm-decrypt-128.rsp"), (nonce_lengths(), 334));
+}

@@ -1,0 +1,73 @@
+//! Reads the published NIST vectors for AES-128 and for GCM with a key of 128
+//! bits, which stand beside this crate's source.
+
+use std::collections::HashMap;
+
+/// One record of a file of vectors: its named values, with the names in
+/// lower case, the bracketed settings above it among them.
+pub struct Record {
+    pub values: HashMap<String, String>,
+    /// Whether the record is one whose tag must not fit.
+    pub fails: bool,
+}
+
+impl Record {
+    fn text(&self, name: &str) -> &str {
+        self.values
+            .get(name)
+            .unwrap_or_else(|| panic!("no {name} in {:?}", self.values))
+    }
+
+    /// A value in hexadecimal.
+    pub fn bytes(&self, name: &str) -> Vec<u8> {
+        let text = self.text(name);
+        assert!(text.len().is_multiple_of(2), "half a byte in {name}");
+        let pairs = (0..text.len()).step_by(2).map(|i| &text[i..i + 2]);
+        pairs
+            .map(|pair| u8::from_str_radix(pair, 16).expect("hexadecimal"))
+            .collect()
+    }
+
+    /// A decimal number.
+    pub fn number(&self, name: &str) -> usize {
+        self.text(name).parse().expect("a number")
+    }
+
+    pub fn key(&self) -> [u8; 16] {
+        self.bytes("key").try_into().expect("a key of 16 bytes")
+    }
+}
+
+/// The records of a file in the directory of vectors.
+pub fn records(file: &str) -> Vec<Record> {
+    let path = format!("{}/{file}", env!("CARGO_MANIFEST_DIR"));
+    let text = std::fs::read_to_string(&path).unwrap_or_else(|e| panic!("{path}: {e}"));
+    let mut settings = HashMap::new();
+    let mut found: Vec<Record> = Vec::new();
+    for line in text.lines().map(str::trim) {
+        if line.is_empty() || line.starts_with('#') {
+            continue;
+        }
+        if let Some(setting) = line.strip_prefix('[') {
+            settings.extend([split(setting.trim_end_matches(']'))]);
+        } else if line == "FAIL" {
+            found.last_mut().expect("a record").fails = true;
+        } else {
+            let (name, value) = split(line);
+            if name == "count" {
+                found.push(Record {
+                    values: settings.clone(),
+                    fails: false,
+                });
+            }
+            let record = found.last_mut().expect("a record");
+            record.values.insert(name, value);
+        }
+    }
+    found
+}
+
+fn split(line: &str) -> (String, String) {
+    let (name, value) = line.split_once('=').expect("a name and a value");
+    (name.trim().to_lowercase(), value.trim().to_string())
+}
