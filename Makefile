@@ -1,5 +1,5 @@
 # Thin names over rt and the gate.
-.PHONY: run lib example test
+.PHONY: run lib example stack test
 
 # Build what there is to run, and run it on small examples.
 run:
@@ -27,6 +27,12 @@ example: lib
 	mkdir -p target/example
 	$(CC) -std=c11 -Wall -Wextra -Werror -O2 -Itarget/lib examples/c/seal.c -Ltarget/lib -larmfile -o target/example/seal
 	target/example/seal
+
+# How many bytes of stack each call of the library takes.
+stack: lib
+	mkdir -p target/example
+	$(CC) -std=c11 -Wall -Wextra -Werror -O2 -Itarget/lib tests/stack/stack.c target/lib/libarmfile.a -lpthread -o target/example/stack
+	target/example/stack
 
 # The gate.
 test:
