@@ -1,6 +1,5 @@
 -- `cipher::encrypt` meets its contract. Each return by its own law: two refusals 1, refusal 7, and the work done. Assumes nothing.
 use Rattle.cipher.proofs.Whole.{refused-key, refused-block, refused-output, done}
-use Rattle.cipher.specs.Answers.{answerNumber}
 use borrow.Author.Tests.{not-true, not-false}
 use mathlib.Core.Bool.{true}
 use mathlib.Core.Path.{_≡_, sym, ap, _∙_}
@@ -12,15 +11,12 @@ fits-requires : tie.Need-fits-requires
 fits-requires c κs = search needs
 
 returns : tie.Need-returns
-unfolding answerNumber
 returns c = refused-key _ _ _ (sym (c .before .fits2 .ensures) ∙ not-true _ (c .if1 .taken))
 
 returns-2 : tie.Need-returns-2
-unfolding answerNumber
 returns-2 c = refused-block _ _ _ (sym (c .before .before .fits2 .ensures) ∙ not-false _ (c .before .if1 .left)) (c .if2 .taken)
 
 returns-3 : tie.Need-returns-3
-unfolding answerNumber
 returns-3 c = refused-output _ _ _ (sym (c .before .before .before .fits2 .ensures) ∙ not-false _ (c .before .before .if1 .left)) (c .before .if2 .left) (c .if3 .taken)
 
 from-bytes-requires : tie.Need-from-bytes-requires
@@ -39,7 +35,6 @@ same-length : tie.Need-same-length
 same-length c = search needs
 
 returns-4 : tie.Need-returns-4
-unfolding answerNumber
 returns-4 c =
     let written = c .before .before in
     let encrypted = written .before .before in
