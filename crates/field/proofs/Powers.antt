@@ -1,8 +1,8 @@
--- The laws of powers of blocks: powers are small, exponents add, and the power of a product is the product of powers.
+-- The laws of powers of blocks: powers are small, exponents add and multiply, and the power of a product is the product of powers.
 -- They are unconditional but for the first power, which gives a small block back. Rests on Ring. Assumes nothing.
 use mathlib.Core.Path.{_≡_, refl, sym, ap, ap₂, _∙_}
 use Prim.Native.Nat.{ℕ, zero, suc, _+_, _*_}
-use native.Mathlib.Nat.{add-zero, add-suc}
+use native.Mathlib.Nat.{add-zero, add-suc, mul-zero, mul-suc}
 use native.Mathlib.Omega.{arith}
 use Rattle.field.specs.declared.blocks.Block.{Block}
 use Rattle.field.specs.Blocks.{Small, one, _•_}
@@ -31,6 +31,11 @@ power-add b j zero = ap (power b) (add-zero j) ∙ sym (ap (_•_ (power b j)) (
 power-add b j (suc k) =
     ap (power b) (add-suc j k) ∙ power-suc b (j + k) ∙ ap (λ (c : Block). c • b) (power-add b j k) ∙ •-assoc _ _ _
     ∙ ap (_•_ (power b j)) (sym (power-suc b k))
+
+pub power-mul : (b : Block) (j k : ℕ) → power b (j * k) ≡ power (power b j) k
+power-mul b j zero = ap (power b) (mul-zero j) ∙ power-zero b ∙ sym (power-zero (power b j))
+power-mul b j (suc k) =
+    ap (power b) (mul-suc j k) ∙ power-add b (j * k) j ∙ ap (λ (c : Block). c • power b j) (power-mul b j k) ∙ sym (power-suc (power b j) k)
 
 pub power-of-product : (a b : Block) (k : ℕ) → power (a • b) k ≡ power a k • power b k
 power-of-product a b zero = power-zero (a • b) ∙ sym (ap₂ _•_ (power-zero a) (power-zero b) ∙ one-• one small-one)
