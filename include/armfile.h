@@ -48,7 +48,8 @@
  * constant-time. Time does depend on lengths, on places (p, n), on the arm
  * number, on seal numbers and on a slip's bytes outside its tag; these are
  * taken for public. A check compares two tags by one test of all their bits.
- * This is how the source is written; it is not part of what is proved.
+ * This is observed of the compiled library (tests/ct), and is not part of what
+ * is proved.
  *
  * THE STATE
  *
