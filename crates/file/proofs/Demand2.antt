@@ -1,7 +1,7 @@
 -- Demand 2: after any true list of calls from an accepted start or read, an accepted seal's slip carries GMAC of the bytes held and the next
 -- number, and check finds genuine exactly the byte lists that are slips of those bytes.
--- It rests on the invariant (`Invariant`), on seal and check at such a state (`SealLaws`), on the slip's fields (`SlipLaws`) and on the tag
--- formula (`TagLaws`). Assumes nothing.
+-- It rests on what the two runs have in common (`Agreement`), on seal and check at such a state (`SealLaws`), on the slip's fields
+-- (`SlipLaws`) and on the tag formula (`TagLaws`). Assumes nothing.
 use mathlib.Core.Path.{_≡_, sym, ap, subst, _∙_}
 use mathlib.Core.List.{List}
 use Prim.Native.Nat.{ℕ, _+_, _≤_, _<_, _^_}
@@ -13,12 +13,13 @@ use Rattle.file.specs.declared.states.State.{State}
 use Rattle.file.specs.Tags.{gmac}
 use Rattle.file.specs.States.{started, readFile}
 use Rattle.file.specs.Slips.{slipBytes, slipArm, slipSeal, nonceOf, stateTag, sealed}
-use Rattle.file.specs.Machine.{Call, seal, Machine, blank, machineNumber}
-use Rattle.file.specs.Runs.{Run, begun, AllTrue, run, fromStart, fromRead}
+use Rattle.file.specs.Machine.{Call, seal, Machine, machineNumber}
+use Rattle.file.specs.Runs.{Run, fromStart, fromRead}
 use Rattle.file.specs.Demands.{Fits, Sealing}
 use Rattle.file.proofs.SlipLaws.{slip-back}
 use Rattle.file.proofs.TagLaws.{tag-gmac}
-use Rattle.file.proofs.Invariant.{Holds, Summed, holds-start, summed-start, holds-read, summed-read, holds-run, summed-run}
+use Rattle.file.proofs.Invariant.{Holds, Summed}
+use Rattle.file.proofs.Agreement.{Agrees, agrees-start, agrees-read}
 use Rattle.file.proofs.SealLaws.{seal-next, slip-written, slip-number, Checked, genuine-checked, checked-genuine}
 
 -- a slip written from a length, an arm, a number and GMAC under them fits
@@ -69,9 +70,10 @@ module _ (key : List ℕ) (arm : ℕ) (st : State) (m : Machine) (h : Holds key 
       }
 
 -- demand 2 of a run whose state holds what its machine does, with the sum of its bytes
-sealing : (key : List ℕ) (arm : ℕ) (r : Run) → arm < 2 ^ 32 → Holds key arm (r .state) (r .machine) → Summed key (r .state) (r .machine)
-    → Sealing key arm r
-sealing key arm r w h s =
+sealing : (key : List ℕ) (arm last : ℕ) (r : Run) → arm < 2 ^ 32 → Agrees key arm last r → r .truth → Sealing key arm r
+sealing key arm last r w g t =
+    let h = g .holds in
+    let s = g .summed t in
     let l : r .state .n ≤ limit = subst (λ (x : ℕ). x ≤ limit) (sym (h .same-n)) (h .short) in
     record {
       seals = seals-fit key arm (r .state) (r .machine) h s w;
@@ -83,17 +85,9 @@ sealing key arm r w h s =
     }
 
 pub demand-2-start : (key : List ℕ) (arm last n : ℕ) → started key arm last n .number ≡ 0 → arm < 2 ^ 32 → last < 2 ^ 64
-    → (calls : List Call) → AllTrue (blank n last) calls → Sealing key arm (fromStart key arm last n calls)
-unfolding fromStart begun
-demand-2-start key arm last n e w l calls t =
-    let r : Run = begun (started key arm last n .state) (blank n last) in
-    let h = holds-start key arm last n e l in
-    sealing key arm (run r calls) w (holds-run key arm r calls h) (summed-run key arm r calls h t (summed-start key arm last n e))
+    → (calls : List Call) → fromStart key arm last n calls .truth → Sealing key arm (fromStart key arm last n calls)
+demand-2-start key arm last n e w l calls t = sealing key arm last _ w (agrees-start key arm last n e w l calls) t
 
 pub demand-2-read : (key : List ℕ) (arm last : ℕ) (file : List ℕ) → readFile key arm last file .number ≡ 0 → arm < 2 ^ 32 → last < 2 ^ 64
-    → (calls : List Call) → AllTrue (record { bytes = file; last = last }) calls → Sealing key arm (fromRead key arm last file calls)
-unfolding fromRead begun
-demand-2-read key arm last file e w l calls t =
-    let r : Run = begun (readFile key arm last file .state) (record { bytes = file; last = last }) in
-    let h = holds-read key arm last file e l in
-    sealing key arm (run r calls) w (holds-run key arm r calls h) (summed-run key arm r calls h t (summed-read key arm last file e))
+    → (calls : List Call) → fromRead key arm last file calls .truth → Sealing key arm (fromRead key arm last file calls)
+demand-2-read key arm last file e w l calls t = sealing key arm last _ w (agrees-read key arm last file e w l calls) t

@@ -1,10 +1,10 @@
 -- The invariant of demands 2 and 3: what the editor's state has to do with the plain machine. It is set up by an accepted start or read and
--- kept by every call, and so along a list of calls; the sum is the sum of the machine's bytes while the bytes named are true.
+-- kept by every call; the sum is the sum of the machine's bytes while the bytes named are true.
 -- It rests on the cases of one call (`Calls`), the laws of edits (`EditLaws`) and the sum's and blocks' laws of the field. Assumes nothing.
 use mathlib.Core.Path.{_≡_, refl, sym, ap, subst, _∙_}
 use mathlib.Core.Bool.{Bool, true, false, cond}
 use mathlib.Core.Logic.{_≢_}
-use mathlib.Core.List.{List, [], _∷_}
+use mathlib.Core.List.{List}
 use Prim.Native.Nat.{ℕ, _+_, _≤_, _<_, _^_}
 use native.Mathlib.Omega.{arith}
 use lib.Dec.{leb}
@@ -21,7 +21,7 @@ use Rattle.file.specs.Edits.{Edit, kindOf, placeOf, given, replacing, le
 use Rattle.file.specs.States.{accepted, refused, zeroState, stateOf, moved, started, readFile, sumAfter, refusalOf}
 use Rattle.file.specs.Slips.{numbered}
 use Rattle.file.specs.Machine.{Call, edit, seal, check, Machine, blank, callNumber, machineNumber, bytesAfter, taken, step, Named, True}
-use Rattle.file.specs.Runs.{Run, stateAfter, further, run, AllTrue}
+use Rattle.file.specs.Runs.{stateAfter}
 use Rattle.file.proofs.EditLaws.{bytes-count, limit-kept, sum-kept}
 use Rattle.file.proofs.Calls.{edit-case, seal-case, check-case, seal-room}
 
@@ -165,19 +165,3 @@ module _ (key : List ℕ) (arm : ℕ) (st : State) (m : Machine) (h : Holds key 
   summed-kept (edit e) t s = edit-case (Summed key) st m e (h .same-n) s (λ a z. summed-moved e a z (t a) s)
   summed-kept (seal out) t s = seal-case (Summed key) st m out (h .same-n) (h .same-last) s (λ a. s)
   summed-kept (check slip) t s = unfold stateAfter in subst (Summed key st) (sym (check-case m slip)) s
-
--- ---- kept along a list of calls
-
-pub holds-run : (key : List ℕ) (arm : ℕ) (r : Run) (calls : List Call) → Holds key arm (r .state) (r .machine)
-    → Holds key arm (run r calls .state) (run r calls .machine)
-unfolding run further
-holds-run key arm r [] h = h
-holds-run key arm r (c ∷ cs) h = holds-run key arm (further r c) cs (holds-kept key arm (r .state) (r .machine) h c)
-
-pub summed-run : (key : List ℕ) (arm : ℕ) (r : Run) (calls : List Call) → Holds key arm (r .state) (r .machine)
-    → AllTrue (r .machine) calls → Summed key (r .state) (r .machine) → Summed key (run r calls .state) (run r calls .machine)
-unfolding run further AllTrue
-summed-run key arm r [] h t s = s
-summed-run key arm r (c ∷ cs) h t s =
-    summed-run key arm (further r c) cs (holds-kept key arm (r .state) (r .machine) h c) (t .1)
-    (summed-kept key arm (r .state) (r .machine) h c (t .0) s)

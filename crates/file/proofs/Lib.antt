@@ -13,6 +13,8 @@ pub mod SealCases
 pub mod Calls
 pub mod Invariant
 pub mod SealLaws
+pub mod Numbers
+pub mod Agreement
 pub mod Demand2
 pub mod Demand3
 pub mod BenchCases

@@ -11,9 +11,8 @@ use Rattle.file.specs.declared.states.State.{State}
 use Rattle.file.specs.Tags.{gmac, tagOf}
 use Rattle.file.specs.States.{readFile}
 use Rattle.file.specs.Slips.{slipVersion, slipLength, slipArm, slipSeal, slipTag, nonceOf, sealed, genuine}
-use Rattle.file.specs.Machine.{Call, seal, Machine, machineNumber, blank}
-use Rattle.file.specs.Runs.{Run, begun, AllTrue, AllWithin, upFrom, fromStart}
-use Rattle.file.specs.States.{started}
+use Rattle.file.specs.Machine.{Call, seal, machineNumber}
+use Rattle.file.specs.Runs.{Run, upFrom, fromStart}
 
 -- a byte list is a slip of an arm's file: 36 bytes, version 1, that length, that arm, and GMAC of the bytes under the slip's own nonce
 pub record Fits (key : List ℕ) (arm : ℕ) (bytes slip : List ℕ) : Type 0 where
@@ -49,7 +48,7 @@ pub record TwoRuns (key : List ℕ) (arm last n : ℕ) (calls : List Call) : Typ
   pub lasts : fromStart key arm last n calls .state .last ≡ fromStart key arm last n calls .machine .last
   -- the reported total is the machine's sum of q + seek(k) + 1, and no edit reports more than q + 2b
   pub total : fromStart key arm last n calls .total ≡ fromStart key arm last n calls .owed
-  pub within : AllWithin (begun (started key arm last n .state) (blank n last)) calls
+  pub within : fromStart key arm last n calls .within
   -- the accepted seals' numbers are last + 1, last + 2, .., and none stands twice
   pub numbers :
       fromStart key arm last n calls .numbers ≡ upFrom (last + 1) (length (fromStart key arm last n calls .numbers))
@@ -60,5 +59,5 @@ pub record TwoRuns (key : List ℕ) (arm last n : ℕ) (calls : List Call) : Typ
       → getD (fromStart key arm last n calls .numbers) i 0 ≢ getD (fromStart key arm last n calls .numbers) j 0
   -- where every old or removed byte named in an accepted edit was the byte there, one read of the final bytes agrees
   pub reader :
-      AllTrue (blank n last) calls
+      fromStart key arm last n calls .truth
       → (arm′ last′ : ℕ) → Read key arm′ last′ (fromStart key arm last n calls .machine .bytes) (fromStart key arm last n calls .state)

@@ -36,9 +36,15 @@ issued st (edit e) = []
 issued st (seal out) = cond (eqb (sealed st out .number) 0) (slipSeal (sealed st out .slip) ∷ []) []
 issued st (check slip) = []
 
--- a run: the editor's state and the machine, what the editor answered and reported and the numbers on its slips, and what the machine
--- alone answers and counts
-pub record Run : Type 0 where
+-- an edit reports no more than q + 2b
+unfoldable pub Within : State → Machine → Call → Type 0
+Within st m (edit e) = reported st (edit e) ≤ countLimit (length (m .bytes)) e
+Within st m (seal out) = Unit {0}
+Within st m (check slip) = Unit {0}
+
+-- a run: the editor's state and the machine, what the editor answered and reported and the numbers on its slips, what the machine alone
+-- answers and counts, and the statements that every call was true as it arrived and that no edit reported more than q + 2b
+pub record Run : Type 1 where
   pub state : State
   pub machine : Machine
   pub answers : List ℕ
@@ -46,10 +52,23 @@ pub record Run : Type 0 where
   pub total : ℕ
   pub owed : ℕ
   pub numbers : List ℕ
+  pub truth : Type 0
+  pub within : Type 0
 
 -- before the first call
 unfoldable pub begun : State → Machine → Run
-begun st m = record { state = st; machine = m; answers = []; expected = []; total = 0; owed = 0; numbers = [] }
+begun st m =
+    record {
+      state = st;
+      machine = m;
+      answers = [];
+      expected = [];
+      total = 0;
+      owed = 0;
+      numbers = [];
+      truth = Unit {0};
+      within = Unit {0};
+    }
 
 -- one call more
 unfoldable pub further : Run → Call → Run
@@ -62,27 +81,14 @@ further r c =
       total = r .total + reported (r .state) c;
       owed = r .owed + callCount (r .machine) c;
       numbers = r .numbers ++ issued (r .state) c;
+      truth = r .truth × True (r .machine) c;
+      within = r .within × Within (r .state) (r .machine) c;
     }
 
 -- the whole list
 unfoldable pub run : Run → List Call → Run
 run r [] = r
 run r (c ∷ cs) = run (further r c) cs
-
--- every call is true as it arrives
-unfoldable pub AllTrue : Machine → List Call → Type 0
-AllTrue m [] = Unit {0}
-AllTrue m (c ∷ cs) = True m c × AllTrue (step m c) cs
-
--- an edit reports no more than q + 2b
-unfoldable pub Within : Run → Call → Type 0
-Within r (edit e) = reported (r .state) (edit e) ≤ countLimit (length (r .machine .bytes)) e
-Within r (seal out) = Unit {0}
-Within r (check slip) = Unit {0}
-
-unfoldable pub AllWithin : Run → List Call → Type 0
-AllWithin r [] = Unit {0}
-AllWithin r (c ∷ cs) = Within r c × AllWithin (further r c) cs
 
 -- a, a + 1, .., of which there are k
 unfoldable pub upFrom : ℕ → ℕ → List ℕ
