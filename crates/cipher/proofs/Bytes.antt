@@ -1,12 +1,11 @@
 -- Facts of single bytes. A fact of one byte is computed at all 256: two functions with equal tables agree below 256.
 -- Assumes nothing.
 use mathlib.Core.Path.{_≡_, refl, sym, ap, _∙_}
-use mathlib.Core.List.{List, [], _∷_}
-use Prim.Native.Nat.{ℕ, zero, suc, _+_, _*_, _/_, _%_, _<_}
+use mathlib.Core.List.{List}
+use Prim.Native.Nat.{ℕ, suc, _*_, _/_, _%_, _<_}
 use lib.ListN.{getD}
 use Rattle.cipher.specs.Lists.{grow, tab}
 use Rattle.cipher.specs.ByteField.{xor, xTimes, productOf, _•_, square, evenPower, inverse}
-use Rattle.cipher.specs.Substitution.{bit, fromBits, affineBit, affine, sbox}
 use Rattle.cipher.specs.Rounds.{mixed}
 use Rattle.cipher.proofs.Lists.{getD-tab}
 

@@ -4,17 +4,16 @@ use mathlib.Core.Path.{_≡_, refl, sym, ap, ap₂, _∙_, fun-ext}
 use mathlib.Core.Logic.{_⊎_, inl, inr, ⊎-elim, _≢_}
 use mathlib.Core.Bool.{Bool, true, false, cond}
 use mathlib.Core.List.{List, [], _∷_, _++_}
-use Prim.Native.Nat.{ℕ, zero, suc, _+_, _-_, _*_, _/_, _%_, _≤_, _<_}
+use Prim.Native.Nat.{ℕ, _+_, _-_, _*_, _/_, _%_, _≤_, _<_}
 use native.Mathlib.Nat.{eq-or-lt-of-le, mul-div-mul-left, zero-lt-suc, div-lt-iff-lt-mul}
 use native.Mathlib.Decide.{decLt}
 use native.Mathlib.Omega.{arith}
 use borrow.Author.Tests.{lt-ltb, le-ltb, eq-eqb, ne-eqb}
-use lib.Dec.{ltb, eqb}
+use lib.Dec.{ltb}
 use lib.Bits.{xor-zero-r}
 use lib.ListN.{length, getD, set}
 use Rattle.cipher.specs.Lists.{grow, tab, at}
 use Rattle.cipher.specs.ByteField.{xor}
-use Rattle.cipher.specs.Substitution.{sbox}
 use Rattle.cipher.specs.Rounds.{SubBytes}
 use Rattle.cipher.specs.Schedule.{addWords, RotWord, SubWord, xPower, Rcon, temp, nextWord, roundKey}
 use Rattle.cipher.specs.Rows.{word, nextRow, carried, rowOf, Expands}

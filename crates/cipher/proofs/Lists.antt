@@ -2,15 +2,15 @@
 -- what they are to hold, and the others what they held before.
 -- Assumes nothing.
 use mathlib.Core.Path.{_≡_, refl, sym, ap, ap₂, _∙_}
-use mathlib.Core.List.{List, [], _∷_, _++_, append-nil, append-assoc}
+use mathlib.Core.List.{List, [], _∷_, _++_, append-nil}
 use Prim.Native.Nat.{ℕ, zero, suc, _+_, _≤_, _<_}
 use mathlib.Core.Logic.{_⊎_, inl, inr}
 use native.Mathlib.Nat.{not-suc-le-zero, eq-or-lt-of-le, le-of-suc-le-suc}
 use native.Mathlib.Numerals.{add-one}
 use native.Mathlib.Omega.{arith}
 use lib.ListN.{length, getD, drop, set, length-append, length-drop, List·getD-append, drop-of-length-le}
-use lib.Seq.{getD-at, set-at, drop-cons, ext-getD, append-snoc}
-use Rattle.cipher.specs.Lists.{grow, tab, at}
+use lib.Seq.{getD-at, set-at, drop-cons, append-snoc}
+use Rattle.cipher.specs.Lists.{grow, tab}
 
 module _ {A : Type 0} where
   pub length-grow : (g : List A → ℕ → A) (n : ℕ) → length (grow g n) ≡ n

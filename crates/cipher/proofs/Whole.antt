@@ -1,19 +1,18 @@
 -- The whole cipher: one round more, the parts of a schedule of any number of rows, and the answers of the block call case by case.
 -- Assumes nothing.
-use mathlib.Core.Path.{_≡_, refl, sym, ap, ap₂, _∙_}
+use mathlib.Core.Path.{_≡_, refl, sym, _∙_}
 use mathlib.Core.Bool.{true, false}
 use mathlib.Core.Logic.{_≢_}
 use mathlib.Core.List.{List, []}
-use Prim.Native.Nat.{ℕ, suc, _+_, _-_, _*_, _/_, _<_, _≤_}
+use Prim.Native.Nat.{ℕ, _+_, _-_, _/_}
 use native.Mathlib.Numerals.{add-one}
 use native.Mathlib.Omega.{arith}
-use lib.Dec.{eqb}
 use borrow.Author.Tests.{eq-eqb, ne-eqb}
 use lib.ListN.{length, getD}
 use lib.Seq.{ext-getD}
-use Rattle.cipher.specs.Lists.{grow, tab, at}
+use Rattle.cipher.specs.Lists.{tab, at}
 use Rattle.cipher.specs.Rounds.{SubBytes, ShiftRows, AddRoundKey}
-use Rattle.cipher.specs.Schedule.{nextWord, KeyExpansion, roundKey, schedule}
+use Rattle.cipher.specs.Schedule.{KeyExpansion, schedule}
 use Rattle.cipher.specs.Rows.{rowOf, Expands}
 use Rattle.cipher.specs.Cipher.{Round, after, Cipher, aes128}
 use Rattle.cipher.specs.Answers.{keyFits, encryptNumber, encryptOutput}

@@ -6,7 +6,7 @@ ghost use Prim.Native.Nat.{ℕ, _+_, _-_, _*_, _/_, _<_, _≤_};
 ghost use mathlib.Core.List.{[]};
 ghost use lib.ListN.{length, getD};
 ghost use Rattle.cipher.specs.Lists.{tab, at};
-ghost use Rattle.cipher.specs.Schedule.{xPower, temp, schedule};
+ghost use Rattle.cipher.specs.Schedule.{xPower, temp};
 ghost use Rattle.cipher.specs.Rows.{word, nextRow, carried, rowOf, Expands};
 
 // The first bytes of Rcon[0] to Rcon[10]; Rcon[0] is not used.

@@ -6,7 +6,7 @@ use native.Mathlib.Nat.{add-zero, add-suc, mul-zero, mul-suc}
 use native.Mathlib.Omega.{arith}
 use Rattle.field.specs.declared.blocks.Block.{Block}
 use Rattle.field.specs.Blocks.{Small, one, _•_}
-use Rattle.field.specs.Powers.{power}
+use Rattle.field.specs.Powers.{power, companion}
 use Rattle.field.proofs.Values.{small-one}
 use Rattle.field.proofs.Ring.{•-assoc, •-swap, •-one, one-•, small-•}
 
@@ -22,6 +22,10 @@ pub small-power : (b : Block) (k : ℕ) → Small (power b k)
 unfolding power
 small-power b zero = small-one
 small-power b (suc k) = small-• _ _
+
+pub small-companion : (h : Block) → Small (companion h)
+unfolding companion
+small-companion h = small-power h _
 
 pub power-one : (b : Block) → Small b → power b 1 ≡ b
 power-one b s = power-suc b 0 ∙ ap (λ (c : Block). c • b) (power-zero b) ∙ one-• b s

@@ -13,11 +13,16 @@ use borrow.Author.Tests.{leb-true}
 use Rattle.cipher.specs.Aes.{keyFits}
 use Rattle.field.specs.declared.blocks.Block.{Block}
 use Rattle.field.specs.Field.{Small, nil, sum, companion, limit}
+use Rattle.field.proofs.Values.{small-nil}
+use Rattle.field.proofs.Ring.{small-⊕, small-•}
 use Rattle.field.proofs.BlockAt.{small-blockAt}
-use Rattle.field.proofs.Sums.{sum-zeros}
+use Rattle.field.proofs.Sums.{small-sum, sum-zeros}
+use Rattle.file.specs.declared.geometry.Kind.{Kind}
+use Rattle.file.specs.declared.geometry.Kind.the-variants.{Change, Append, Prepend, DropFront, CutTail}
 use Rattle.file.specs.declared.states.State.{State}
 use Rattle.file.specs.Tags.{hashKey}
 use Rattle.file.specs.Edits.{Edit, kindOf, placeOf, given, replacing, lengthAfter}
+use Rattle.file.specs.Table.{newSum}
 use Rattle.file.specs.States.{accepted, refused, zeroState, stateOf, moved, started, readFile, sumAfter, refusalOf}
 use Rattle.file.specs.Slips.{numbered}
 use Rattle.file.specs.Machine.{Call, edit, seal, check, Machine, blank, callNumber, machineNumber, bytesAfter, taken, step, Named, True}
@@ -25,11 +30,13 @@ use Rattle.file.specs.Runs.{stateAfter}
 use Rattle.file.proofs.EditLaws.{bytes-count, limit-kept, sum-kept}
 use Rattle.file.proofs.Calls.{edit-case, seal-case, check-case, seal-room}
 
--- key, H, I and arm are as start made them, length and last used number are the machine's, and neither passes its limit
+-- key, H, I and arm are as start made them, S is a block of two words, length and last used number are the machine's, and neither passes its
+-- limit
 pub record Holds (key : List ℕ) (arm : ℕ) (st : State) (m : Machine) : Type 0 where
   pub same-key : st .key .bytes ≡ key
   pub same-h : st .h ≡ hashKey key
   pub same-i : st .i ≡ companion (hashKey key)
+  pub small-s : Small (st .s)
   pub same-arm : st .arm ≡ arm
   pub same-n : st .n ≡ length (m .bytes)
   pub same-last : st .last ≡ m .last
@@ -67,14 +74,15 @@ unfolding readFile
 begun-read key arm last file e = begun-choice key (length file) _ _ _ refl refl e
 
 -- the state for a key holds
-holds-made : (key : List ℕ) (s : Block) (n arm last : ℕ) (f : List ℕ) → n ≡ length f → n ≤ limit → last < 2 ^ 64
+holds-made : (key : List ℕ) (s : Block) (n arm last : ℕ) (f : List ℕ) → Small s → n ≡ length f → n ≤ limit → last < 2 ^ 64
     → Holds key arm (stateOf key s n arm last) (record { bytes = f; last = last })
 unfolding stateOf
-holds-made key s n arm last f e l r =
+holds-made key s n arm last f w e l r =
     record {
       same-key = refl;
       same-h = refl;
       same-i = refl;
+      small-s = w;
       same-arm = refl;
       same-n = e;
       same-last = refl;
@@ -88,7 +96,7 @@ unfolding blank
 holds-start key arm last n e r =
     let b = begun-start key arm last n e in
     subst (λ (st : State). Holds key arm st (blank n last)) (sym (b .state))
-    (holds-made key nil n arm last (replicate n 0) (sym (length-replicate n 0)) (b .short) r)
+    (holds-made key nil n arm last (replicate n 0) small-nil (sym (length-replicate n 0)) (b .short) r)
 
 pub summed-start : (key : List ℕ) (arm last n : ℕ) → started key arm last n .number ≡ 0
     → Summed key (started key arm last n .state) (blank n last)
@@ -101,7 +109,7 @@ pub holds-read : (key : List ℕ) (arm last : ℕ) (file : List ℕ) → readFil
 holds-read key arm last file e r =
     let b = begun-read key arm last file e in
     subst (λ (st : State). Holds key arm st (record { bytes = file; last = last })) (sym (b .state))
-    (holds-made key (sum (hashKey key) file) (length file) arm last file refl (b .short) r)
+    (holds-made key (sum (hashKey key) file) (length file) arm last file (small-sum _ file) refl (b .short) r)
 
 pub summed-read : (key : List ℕ) (arm last : ℕ) (file : List ℕ) → readFile key arm last file .number ≡ 0
     → Summed key (readFile key arm last file .state) (record { bytes = file; last = last })
@@ -111,20 +119,34 @@ summed-read key arm last file e = ap (λ (st : State). st .s) (begun-read key ar
 -- ---- kept by one call
 
 -- H is of two words, as every block of a byte list
-small-hash : (key : List ℕ) → Small (hashKey key)
+pub small-hash : (key : List ℕ) → Small (hashKey key)
 unfolding hashKey
 small-hash key = small-blockAt _ 0
 
+-- and so is every sum of document 01's table
+small-table : (kind : Kind) (h i s w : Block) (k : ℕ) → Small (newSum kind h i s w k)
+unfolding newSum
+small-table Change h i s w k = small-⊕ _ _
+small-table Append h i s w k = small-⊕ _ _
+small-table Prepend h i s w k = small-⊕ _ _
+small-table DropFront h i s w k = small-⊕ _ _
+small-table CutTail h i s w k = small-• _ _
+
+small-after : (st : State) (kind : Kind) (p : ℕ) (a b : List ℕ) → Small (sumAfter st kind p a b)
+unfolding sumAfter
+small-after st kind p a b = small-table kind _ _ _ _ _
+
 module _ (key : List ℕ) (arm : ℕ) (st : State) (m : Machine) (h : Holds key arm st m) where
   -- by an accepted edit of at least one byte, whatever the new sum
-  holds-moved : (s : Block) (e : Edit) → refusalOf (length (m .bytes)) e ≡ 0
+  holds-moved : (s : Block) → Small s → (e : Edit) → refusalOf (length (m .bytes)) e ≡ 0
       → Holds key arm (moved st s (lengthAfter (kindOf e) (length (given e)) (st .n))) (taken m (edit e))
   unfolding moved taken
-  holds-moved s e a =
+  holds-moved s w e a =
       record {
         same-key = h .same-key;
         same-h = h .same-h;
         same-i = h .same-i;
+        small-s = w;
         same-arm = h .same-arm;
         same-n = ap (lengthAfter (kindOf e) (length (given e))) (h .same-n) ∙ sym (bytes-count (m .bytes) e a);
         same-last = h .same-last;
@@ -140,6 +162,7 @@ module _ (key : List ℕ) (arm : ℕ) (st : State) (m : Machine) (h : Holds key 
         same-key = h .same-key;
         same-h = h .same-h;
         same-i = h .same-i;
+        small-s = h .small-s;
         same-arm = h .same-arm;
         same-n = h .same-n;
         same-last = ap (λ (x : ℕ). x + 1) (h .same-last);
@@ -149,7 +172,7 @@ module _ (key : List ℕ) (arm : ℕ) (st : State) (m : Machine) (h : Holds key 
 
   -- by any call
   pub holds-kept : (c : Call) → Holds key arm (stateAfter st c) (step m c)
-  holds-kept (edit e) = edit-case (Holds key arm) st m e (h .same-n) h (λ a z. holds-moved _ e a)
+  holds-kept (edit e) = edit-case (Holds key arm) st m e (h .same-n) h (λ a z. holds-moved _ (small-after st _ _ _ _) e a)
   holds-kept (seal out) = seal-case (Holds key arm) st m out (h .same-n) (h .same-last) h (holds-numbered out)
   holds-kept (check slip) = unfold stateAfter in subst (Holds key arm st) (sym (check-case m slip)) h
 

@@ -1,13 +1,11 @@
 -- A list of calls run by the editor and by the plain machine, in one fold (document 01, demand 3).
 -- Assumes nothing.
-use mathlib.Core.Path.{_≡_}
 use mathlib.Core.Bool.{cond}
 use mathlib.Core.List.{List, [], _∷_, _++_}
 use Prim.Native.Nat.{ℕ, zero, suc, _+_, _≤_}
 use lib.ListN.{length}
 use lib.Dec.{eqb}
 use Rattle.file.specs.declared.states.State.{State}
-use Rattle.file.specs.Edits.{Edit}
 use Rattle.file.specs.States.{edited, started, readFile}
 use Rattle.file.specs.Slips.{sealed, checkNumber, slipSeal}
 use Rattle.file.specs.Machine.{Call, edit, seal, check, Machine, blank, machineNumber, step, callCount, countLimit, True}

@@ -1,8 +1,7 @@
 -- `cipher::encrypt` meets its contract. Each return by its own law: two refusals 1, refusal 7, and the work done. Assumes nothing.
 use Rattle.cipher.proofs.Whole.{refused-key, refused-block, refused-output, done}
 use borrow.Author.Tests.{not-true, not-false}
-use mathlib.Core.Bool.{true}
-use mathlib.Core.Path.{_≡_, sym, ap, _∙_}
+use mathlib.Core.Path.{sym, _∙_}
 use borrow.Author.Needs.{needs}
 use Rattle.cipher.proofs.encrypt.Statement.{statement}
 use Rattle.cipher.proofs.encrypt.Tie as tie

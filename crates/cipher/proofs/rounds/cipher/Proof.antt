@@ -1,11 +1,10 @@
 -- `cipher::rounds::cipher` meets its contract. The loop's invariant: the state is that after `done` rounds. Assumes nothing.
 use Rattle.cipher.proofs.Whole.{after-more, cipher-done}
-use Rattle.cipher.specs.Cipher.{after, Cipher}
-use lib.ListN.{length}
+use Rattle.cipher.specs.Cipher.{after}
 use borrow.Author.Needs.{needs}
 use native.Mathlib.Omega.{arith}
 use Prim.Native.Nat.{_+_, _-_, _≤_}
-use mathlib.Core.Path.{_≡_, refl, _∙_}
+use mathlib.Core.Path.{_≡_, refl}
 use Rattle.cipher.proofs.rounds.cipher.Statement.{statement}
 use Rattle.cipher.proofs.rounds.cipher.Tie as tie
 

@@ -6,7 +6,6 @@ use Rattle.cipher.specs.Rounds.{mixedEntry}
 use mir.Syntax.{w8}
 use mir.Val.{Fits}
 use Rattle.cipher.specs.ByteField.{xor}
-use native.Mathlib.Omega.{arith}
 use borrow.Author.Needs.{needs}
 use Rattle.cipher.proofs.rounds.mixed_entry.Statement.{statement}
 use Rattle.cipher.proofs.rounds.mixed_entry.Tie as tie

@@ -5,7 +5,7 @@ use Rattle.cipher.specs.Lists.{tab}
 use borrow.Author.Needs.{needs}
 use native.Mathlib.Omega.{arith}
 use mathlib.Core.Path.{refl}
-use Prim.Native.Nat.{_-_, _+_, _*_, _/_, _%_}
+use Prim.Native.Nat.{_-_, _+_, _/_, _%_}
 use Rattle.cipher.proofs.rounds.shift_rows.Statement.{statement}
 use Rattle.cipher.proofs.rounds.shift_rows.Tie as tie
 

@@ -2,11 +2,10 @@
 use Rattle.cipher.proofs.Lists.{Filled, filled-start, filled-next, filled-entry, filled-length, filled-done}
 use Rattle.cipher.specs.Rows.{rowOf}
 use Rattle.cipher.specs.Lists.{tab}
-use lib.ListN.{length, length-set}
-use borrow.Author.Needs.{needs}
+use lib.ListN.{length}
 use native.Mathlib.Omega.{arith}
 use mathlib.Core.List.{[]}
-use mathlib.Core.Path.{refl, ap, _∙_}
+use mathlib.Core.Path.{refl}
 use Prim.Native.Nat.{_-_}
 use Rattle.cipher.proofs.schedule.fill.Statement.{statement}
 use Rattle.cipher.proofs.schedule.fill.Tie as tie

@@ -2,7 +2,6 @@
 -- only substituted where not. Assumes nothing.
 use Rattle.cipher.proofs.KeyRows.{first-turned, first-substituted}
 use Rattle.cipher.specs.ByteField.{xor}
-use mathlib.Core.Path.{refl}
 use borrow.Author.Needs.{needs}
 use Rattle.cipher.proofs.schedule.first_word.Statement.{statement}
 use Rattle.cipher.proofs.schedule.first_word.Tie as tie

@@ -1,7 +1,6 @@
 -- `cipher::schedule::key_row` meets its contract. The loop's invariant: the first i bytes are the key's. Assumes nothing.
 use Rattle.cipher.proofs.Lists.{Filled, filled-start, filled-next, filled-done}
 use Rattle.cipher.specs.Lists.{at, tab}
-use borrow.Author.Needs.{needs}
 use native.Mathlib.Omega.{arith}
 use mathlib.Core.Path.{refl}
 use Prim.Native.Nat.{_+_, _*_, _-_}
