@@ -47,7 +47,7 @@ pub extern "C" fn armfile_ghash(h: &[u8], a: &[u8], c: &[u8], out: &mut [u8]) ->
     field_number(field::ghash(h, a, c, out))
 }
 
-// GMAC of a under a key and a nonce. Refused, in this order, with 1 where the key is not one, with 9 where the nonce is empty, with 7 where
+// GMAC of a under a key and a nonce. Refused, in this order, with 1 where the key is not 16 bytes, with 9 where the nonce is empty, with 7 where
 // out is not 16 bytes, and with 2 where nonce or a passes 2^61 - 1 bytes.
 #[no_mangle]
 pub extern "C" fn armfile_gmac(key: &[u8], nonce: &[u8], a: &[u8], out: &mut [u8]) -> u64
@@ -57,7 +57,7 @@ pub extern "C" fn armfile_gmac(key: &[u8], nonce: &[u8], a: &[u8], out: &mut [u8
     file_number(file::gmac(key, nonce, a, out))
 }
 
-// The state of n zero bytes. Refused, in this order, with 1 where the key is not one and with 2 where n passes 2^61 - 1; the lent state
+// The state of n zero bytes. Refused, in this order, with 1 where the key is not 16 bytes and with 2 where n passes 2^61 - 1; the lent state
 // then stays as it was.
 #[no_mangle]
 pub extern "C" fn armfile_start(
@@ -73,7 +73,7 @@ pub extern "C" fn armfile_start(
     keep(State::start(key, arm, last, n), state, &mut none)
 }
 
-// The state of a lent file. Refused, in this order, with 1 where the key is not one and with 2 where the file passes 2^61 - 1 bytes; the
+// The state of a lent file. Refused, in this order, with 1 where the key is not 16 bytes and with 2 where the file passes 2^61 - 1 bytes; the
 // lent state then stays as it was.
 #[no_mangle]
 pub extern "C" fn armfile_read(

@@ -1,4 +1,4 @@
--- The field's laws, from the bottom up. The layers above use those of Values, Ring, Powers, Frobenius, Bytes, XorBytes, BlockAt,
+-- The field's laws, from the bottom up. The layers above use those of Values, Ring, Powers, Bytes, XorBytes, BlockAt,
 -- Horner, Sums, Hash, Stream, Steps, Cases and Packed; the others serve these or this crate's functions.
 pub mod Commutative
 pub mod Xor

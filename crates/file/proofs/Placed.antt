@@ -23,11 +23,6 @@ use Rattle.file.proofs.Accepted.{Accepted}
 last-touched : (at l : ℕ) → 1 ≤ l → (at + l - 1) / 16 + 1 ≡ blocks (at + l)
 last-touched at l h = rw blocks-value (omega arith)
 
--- the blocks that bytes touch are those of the bytes with the rest of their first block in front
-pub touched-blocks : (at l : ℕ) → 1 ≤ l → touched at l ≡ blocks (at % 16 + l)
-unfolding touched
-touched-blocks at l h = rw blocks-value (omega arith)
-
 -- ---- exponents
 
 -- change: the blocks after the last touched one

@@ -3,7 +3,7 @@ ghost use mathlib.Core.Path.{_≡_};
 ghost use Rattle.file.specs.Causes.{causeNumber};
 
 pub enum Cause {
-    // The key is not a key.
+    // The key is not 16 bytes.
     KeyLength,
     // File, A or nonce passes 2^61 - 1 bytes, or would.
     TooLong,

@@ -39,6 +39,7 @@ pub enum Measured {
 }
 
 // What an edit of a file of n bytes does to lengths: l bytes are given, of a change at p, with r new ones. One of no bytes does nothing.
+// It serves the layers above.
 pub fn measure(kind: Kind, p: u64, l: u64, r: u64, n: u64) -> Measured
     ensures { λ x. ⌜ geometryOf x ≡ geometry kind p l r n ⌝ }
 {

@@ -20,7 +20,7 @@ ghost use mathlib.Core.Path.{_≡_};
 ghost use Rattle.file.specs.Causes.{answerNumber};
 ghost use Rattle.file.specs.Tags.{gmacNumber, gmacOutput};
 
-// GMAC of a under a key and a nonce, written to out. Refused, in this order, where the key is not a key, where the nonce is empty,
+// GMAC of a under a key and a nonce, written to out. Refused, in this order, where the key is not 16 bytes, where the nonce is empty,
 // where out is not sixteen bytes, and where the nonce or a is longer than 2^61 - 1 bytes; out then stays as it was. The time depends
 // on the lengths alone, but for the cipher's table.
 pub fn gmac(key: &[u8], nonce: &[u8], a: &[u8], out: &mut [u8]) -> Answer

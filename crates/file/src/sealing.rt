@@ -1,6 +1,7 @@
 // Seal and check.
 use super::causes::Answer;
 use super::causes::Cause;
+use super::geometry::MOST;
 use super::slips::Fields;
 use super::slips::Opened;
 use super::slips::Verdict;
@@ -9,7 +10,6 @@ use super::slips::write;
 use super::states::State;
 use super::tags::tag;
 use field::Block;
-use field::hashing::LIMIT;
 use field::packing::store;
 ghost use mathlib.Core.Path.{_≡_};
 ghost use mathlib.Core.Bool.{false};
@@ -32,7 +32,7 @@ impl State {
     pub fn seal(mut self, slip: &mut [u8]) -> Sealed
         ensures { λ r. ⌜ sealAnswer r (now (slip .exit)) ≡ sealed self (now (slip .entry)) ⌝ }
     {
-        if self.n > LIMIT as u64 {
+        if self.n > MOST {
             return Sealed {
                 state: self,
                 answer: Answer::Refused(Cause::TooLong),
@@ -74,7 +74,7 @@ impl State {
     pub fn check(self, slip: &[u8]) -> Verdict
         ensures { λ r. ⌜ (verdictNumber r ≡ checkNumber (self .n) (now (slip .entry))) × (isGenuine r ≡ genuine self (now (slip .entry))) ⌝ }
     {
-        if self.n > LIMIT as u64 {
+        if self.n > MOST {
             return Verdict::Refused(Cause::TooLong);
         }
         let o = open(slip);

@@ -40,7 +40,7 @@ pub struct Edited {
 }
 
 impl State {
-    // The state of n zero bytes. Refused with 1 where the key is not one, with 2 where n passes 2^61 - 1, and then all zeros.
+    // The state of n zero bytes. Refused with 1 where the key is not 16 bytes, with 2 where n passes 2^61 - 1, and then all zeros.
     pub fn start(key: &[u8], arm: u32, last: u64, n: u64) -> Edited
         ensures { λ x. ⌜ stateAnswer x ≡ started (now (key .entry)) arm last n ⌝ }
     {
@@ -58,7 +58,7 @@ impl State {
         }
     }
 
-    // The state of a lent file. Refused with 1 where the key is not one, with 2 where the file passes 2^61 - 1 bytes, and then all zeros.
+    // The state of a lent file. Refused with 1 where the key is not 16 bytes, with 2 where the file passes 2^61 - 1 bytes, and then all zeros.
     pub fn read(key: &[u8], arm: u32, last: u64, file: &[u8]) -> Edited
         ensures { λ x. ⌜ stateAnswer x ≡ readFile (now (key .entry)) arm last (now (file .entry)) ⌝ }
     {
