@@ -17,14 +17,14 @@ use Rattle.file.specs.declared.states.State.{State}
 use Rattle.file.specs.Tags.{hashKey}
 use Rattle.file.specs.Edits.{Edit, kindOf, placeOf, given, replacing, lengthAfter, countOf}
 use Rattle.file.specs.States.{accepted, refused, moved, sumAfter, refusalOf, editedBy, edited, started, readFile}
-use Rattle.file.specs.Slips.{SealAnswer, slipBytes, stateTag, sealNumber, numbered, sealed, checkNumber, genuine}
+use Rattle.file.specs.Slips.{SealAnswer, slipBytes, stateTag, sealNumber, numbered, sealed, checked}
 use Rattle.file.specs.Machine.{Call, edit, seal, check, Machine}
 use Rattle.file.specs.Runs.{Run, stateAfter, answerOf, reported, begun, further, run, fromStart, fromRead}
 use Rattle.file.proofs.Invariant.{Holds, small-hash, begun-start, begun-read, holds-start, holds-read, holds-kept}
 use Rattle.capi.specs.Bytes.{stateBytes, stateFrom}
 use Rattle.capi.specs.Calls as calls
-use Rattle.capi.specs.Calls.{EditCall, editAnswer, kept, editCall, startCall, readCall}
-use Rattle.capi.specs.Calls.{SealCall, sealAnswer, stamped, sealCall, judged, checkCall}
+use Rattle.capi.specs.Calls.{EditCall, editResult, kept, editCall, startCall, readCall}
+use Rattle.capi.specs.Calls.{SealCall, sealResult, stamped, sealCall, judged, checkCall}
 use Rattle.capi.specs.Lists.{lentCall, LentRun, lentBegun, lentFurther, lentRun, Boundary}
 use Rattle.capi.proofs.StateBytes.{Fits, state-back}
 
@@ -33,7 +33,7 @@ use Rattle.capi.proofs.StateBytes.{Fits, state-back}
 -- the tests of an edit: t that it is accepted, c that it is of no bytes
 kept-choice : (st st′ : State) (n k : ℕ) (t c : Bool) → eqb n 0 ≡ t
     → let a = cond t (cond c (accepted st 0) (accepted st′ k)) (refused st n) in
-    kept a (stateBytes st) 0 ≡ editAnswer (a .number) (stateBytes (a .state)) (a .count)
+    kept a (stateBytes st) 0 ≡ editResult (a .number) (stateBytes (a .state)) (a .count)
 unfolding kept
 kept-choice st st′ n k true true e = refl
 kept-choice st st′ n k true false e = refl
@@ -42,14 +42,14 @@ kept-choice st st′ n k false c e = rw e
 -- t that a seal is accepted
 stamped-choice : (st st′ : State) (n : ℕ) (out slip : List ℕ) (t : Bool) → eqb n 0 ≡ t
     → let a = cond {A = SealAnswer} t (record { state = st′; number = 0; slip = slip }) (record { state = st; number = n; slip = out }) in
-    stamped a (stateBytes st) ≡ sealAnswer (a .number) (stateBytes (a .state)) (a .slip)
+    stamped a (stateBytes st) ≡ sealResult (a .number) (stateBytes (a .state)) (a .slip)
 unfolding stamped
 stamped-choice st st′ n out slip true e = refl
 stamped-choice st st′ n out slip false e = rw e
 
 -- so an edit and a seal leave the bytes of the state after them, refused or not
 kept-edit : (st : State) (e : Edit)
-    → kept (edited st e) (stateBytes st) 0 ≡ editAnswer (edited st e .number) (stateBytes (edited st e .state)) (edited st e .count)
+    → kept (edited st e) (stateBytes st) 0 ≡ editResult (edited st e .number) (stateBytes (edited st e .state)) (edited st e .count)
 unfolding edited editedBy refusalOf
 kept-edit st e =
     kept-choice st (moved st (sumAfter st (kindOf e) (placeOf e) (given e) (replacing e)) (lengthAfter (kindOf e) (length (given e)) (st .n)))
@@ -57,7 +57,7 @@ kept-edit st e =
 
 stamped-seal : (st : State) (out : List ℕ)
     → stamped (sealed st out) (stateBytes st)
-    ≡ sealAnswer (sealed st out .number) (stateBytes (sealed st out .state)) (sealed st out .slip)
+    ≡ sealResult (sealed st out .number) (stateBytes (sealed st out .state)) (sealed st out .slip)
 unfolding sealed
 stamped-seal st out =
     stamped-choice st (numbered st (st .last + 1)) (sealNumber (st .n) (st .last) out) out
@@ -65,10 +65,10 @@ stamped-seal st out =
 
 -- and every call does
 lent-call : (st : State) → Fits st → (c : Call)
-    → lentCall (stateBytes st) c ≡ editAnswer (answerOf st c) (stateBytes (stateAfter st c)) (reported st c)
+    → lentCall (stateBytes st) c ≡ editResult (answerOf st c) (stateBytes (stateAfter st c)) (reported st c)
 unfolding lentCall answerOf stateAfter reported editCall sealCall checkCall judged
 lent-call st f (edit e) = rw (state-back st f) (kept-edit st e)
-lent-call st f (seal out) = rw (state-back st f) (ap (λ (x : SealCall). editAnswer (x .number) (x .state) 0) (stamped-seal st out))
+lent-call st f (seal out) = rw (state-back st f) (ap (λ (x : SealCall). editResult (x .number) (x .state) 0) (stamped-seal st out))
 lent-call st f (check slip) = rw (state-back st f)
 
 -- ---- a list of calls
@@ -97,8 +97,7 @@ module _ (key : List ℕ) (arm : ℕ) (k : keyFits key ≡ true) (w : arm < 2 ^ 
         answers = a;
         total = t;
         slips = λ out. ap (λ (st : State). sealed st out .slip) back;
-        verdicts = λ slip verdict.
-            ap (λ (st : State). judged (checkNumber (st .n) slip) (genuine st slip) (l .state) verdict) back;
+        verdicts = λ slip verdict. ap (λ (st : State). judged (checked st slip) (l .state) verdict) back;
       }
 
   boundary-run : (l : LentRun) (r : Run) (calls : List Call) → Holds key arm (r .state) (r .machine) → l .state ≡ stateBytes (r .state)

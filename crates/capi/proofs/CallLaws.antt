@@ -16,15 +16,14 @@ use Rattle.file.specs.declared.states.Outcome.the-variants as outcome
 use Rattle.file.specs.declared.sealing.Sealed.{Sealed}
 use Rattle.file.specs.declared.slips.Verdict.{Verdict}
 use Rattle.file.specs.declared.slips.Verdict.the-variants as verdict
-use Rattle.file.specs.Causes.{causeNumber, answerNumber, outcomeNumber, outcomeCount, verdictNumber, isGenuine}
+use Rattle.file.specs.Causes.{causeNumber, answerNumber, outcomeNumber, outcomeCount}
 use Rattle.file.specs.Edits.{Edit}
 use Rattle.file.specs.States.{StateAnswer, stateAnswer, edited}
-use Rattle.file.specs.Slips as slips
-use Rattle.file.specs.Slips.{SealAnswer, sealed, checkNumber, genuine}
+use Rattle.file.specs.Slips.{SealAnswer, sealAnswer, sealed, CheckAnswer, checkAnswer, checked}
 use Rattle.file.proofs.ShapeLaws.{cause-pos}
 use Rattle.capi.specs.Bytes.{stateBytes, stateFrom}
-use Rattle.capi.specs.Calls.{EditCall, editAnswer, kept, editCall, StartCall, startAnswer, begun}
-use Rattle.capi.specs.Calls.{SealCall, sealAnswer, stamped, sealCall, CheckCall, checkAnswer, judged, checkCall}
+use Rattle.capi.specs.Calls.{EditCall, editResult, kept, editCall, StartCall, startResult, begun}
+use Rattle.capi.specs.Calls.{SealCall, sealResult, stamped, sealCall, CheckCall, checkResult, judged, checkCall}
 
 -- a number that is a cause's is not 0
 refusal : (n : ℕ) (c : Cause) → n ≡ causeNumber c → n ≡ 0 → ⊥
@@ -34,18 +33,18 @@ refusal n c e z = omega (arith, cause-pos c)
 
 module _ (e : Edited) (state : List ℕ) (count : ℕ) where
   pub kept-refused : {c : Cause} {n : ℕ} → e .outcome ≡ outcome.Refused c → n ≡ causeNumber c
-      → editAnswer n state count ≡ kept (stateAnswer e) state count
+      → editResult n state count ≡ kept (stateAnswer e) state count
   unfolding kept
   kept-refused {c} {n} x y =
       let z : outcomeNumber (e .outcome) ≡ causeNumber c = ap outcomeNumber x in
-      simp (ne-eqb _ _ (refusal _ c z)) (ap (λ (m : ℕ). editAnswer m state count) (y ∙ sym z))
+      simp (ne-eqb _ _ (refusal _ c z)) (ap (λ (m : ℕ). editResult m state count) (y ∙ sym z))
 
   pub kept-done : {n : ℕ} {b : List ℕ} → e .outcome ≡ outcome.Done n → b ≡ stateBytes (e .state)
-      → editAnswer 0 b n ≡ kept (stateAnswer e) state count
+      → editResult 0 b n ≡ kept (stateAnswer e) state count
   unfolding kept
   kept-done {n} {b} x y =
       let z : outcomeNumber (e .outcome) ≡ 0 = ap outcomeNumber x in
-      simp (eq-eqb _ _ z) (ap₂ (editAnswer 0) y (sym (ap outcomeCount x)))
+      simp (eq-eqb _ _ z) (ap₂ (editResult 0) y (sym (ap outcomeCount x)))
 
 -- the edit of the state that was read
 pub edit-call : (state : List ℕ) (e : Edit) (count : ℕ) {st : State} {a : StateAnswer} {x : EditCall} → st ≡ stateFrom state
@@ -56,16 +55,16 @@ edit-call state e count es ea ex =
 
 -- without the count
 uncounted : EditCall → StartCall
-uncounted x = startAnswer (x .number) (x .state)
+uncounted x = startResult (x .number) (x .state)
 
 kept-begun : (t : Bool) (n m c : ℕ) (b s : List ℕ)
-    → uncounted (cond t (editAnswer 0 b m) (editAnswer n s c)) ≡ cond t (startAnswer 0 b) (startAnswer n s)
+    → uncounted (cond t (editResult 0 b m) (editResult n s c)) ≡ cond t (startResult 0 b) (startResult n s)
 unfolding uncounted
 kept-begun true n m c b s = refl
 kept-begun false n m c b s = refl
 
 pub begin-call : (state : List ℕ) (count : ℕ) {a b : StateAnswer} {x : EditCall} → a ≡ b → x ≡ kept a state count
-    → startAnswer (x .number) (x .state) ≡ begun b state
+    → startResult (x .number) (x .state) ≡ begun b state
 unfolding kept begun uncounted
 begin-call state count {a} {b} e ex =
     ap uncounted (ex ∙ ap (λ (y : StateAnswer). kept y state count) e) ∙ kept-begun (eqb (b .number) 0) _ _ _ _ _
@@ -74,18 +73,18 @@ begin-call state count {a} {b} e ex =
 
 module _ (r : Sealed) (state slip : List ℕ) where
   pub stamped-refused : {c : Cause} {n : ℕ} → r .answer ≡ answer.Refused c → n ≡ causeNumber c
-      → sealAnswer n state slip ≡ stamped (slips.sealAnswer r slip) state
+      → sealResult n state slip ≡ stamped (sealAnswer r slip) state
   unfolding stamped
   stamped-refused {c} {n} x y =
       let z : answerNumber (r .answer) ≡ causeNumber c = ap answerNumber x in
-      simp (ne-eqb _ _ (refusal _ c z)) (ap (λ (m : ℕ). sealAnswer m state slip) (y ∙ sym z))
+      simp (ne-eqb _ _ (refusal _ c z)) (ap (λ (m : ℕ). sealResult m state slip) (y ∙ sym z))
 
   pub stamped-done : {b : List ℕ} → r .answer ≡ answer.Done → b ≡ stateBytes (r .state)
-      → sealAnswer 0 b slip ≡ stamped (slips.sealAnswer r slip) state
+      → sealResult 0 b slip ≡ stamped (sealAnswer r slip) state
   unfolding stamped
   stamped-done {b} x y =
       let z : answerNumber (r .answer) ≡ 0 = ap answerNumber x in
-      simp (eq-eqb _ _ z) (ap₂ (λ (m : ℕ) (t : List ℕ). sealAnswer m t slip) (sym z) y)
+      simp (eq-eqb _ _ z) (ap₂ (λ (m : ℕ) (t : List ℕ). sealResult m t slip) (sym z) y)
 
 -- the seal of the state that was read
 pub seal-call : (state slip : List ℕ) {st : State} {a : SealAnswer} {x : SealCall} → st ≡ stateFrom state → a ≡ sealed st slip
@@ -98,26 +97,23 @@ seal-call state slip es ea ex =
 
 module _ (v : Verdict) (state : List ℕ) (held : ℕ) where
   pub judged-refused : {c : Cause} {n : ℕ} → v ≡ verdict.Refused c → n ≡ causeNumber c
-      → checkAnswer n state held ≡ judged (verdictNumber v) (isGenuine v) state held
+      → checkResult n state held ≡ judged (checkAnswer v) state held
   unfolding judged
   judged-refused {c} {n} x y =
-      let z : verdictNumber v ≡ causeNumber c = ap verdictNumber x in
-      simp (ne-eqb _ _ (refusal _ c z)) (ap (λ (m : ℕ). checkAnswer m state held) (y ∙ sym z))
+      let z : checkAnswer v .number ≡ causeNumber c = ap (λ (w : Verdict). checkAnswer w .number) x in
+      simp (ne-eqb _ _ (refusal _ c z)) (ap (λ (m : ℕ). checkResult m state held) (y ∙ sym z))
 
-  pub judged-genuine : v ≡ verdict.Genuine → checkAnswer 0 state 1 ≡ judged (verdictNumber v) (isGenuine v) state held
+  pub judged-genuine : v ≡ verdict.Genuine → checkResult 0 state 1 ≡ judged (checkAnswer v) state held
   unfolding judged
-  judged-genuine x = sym (ap (λ (w : Verdict). judged (verdictNumber w) (isGenuine w) state held) x)
+  judged-genuine x = sym (ap (λ (w : Verdict). judged (checkAnswer w) state held) x)
 
-  pub judged-not : v ≡ verdict.NotGenuine → checkAnswer 0 state 0 ≡ judged (verdictNumber v) (isGenuine v) state held
+  pub judged-not : v ≡ verdict.NotGenuine → checkResult 0 state 0 ≡ judged (checkAnswer v) state held
   unfolding judged
-  judged-not x = sym (ap (λ (w : Verdict). judged (verdictNumber w) (isGenuine w) state held) x)
+  judged-not x = sym (ap (λ (w : Verdict). judged (checkAnswer w) state held) x)
 
 -- the check of the state that was read
-pub check-call : (state slip : List ℕ) (held : ℕ) (v : Verdict) {st : State} {x : CheckCall} → st ≡ stateFrom state
-    → (verdictNumber v ≡ checkNumber (st .n) slip) × (isGenuine v ≡ genuine st slip)
-    → x ≡ judged (verdictNumber v) (isGenuine v) state held → x ≡ checkCall state slip held
+pub check-call : (state slip : List ℕ) (held : ℕ) {st : State} {a : CheckAnswer} {x : CheckCall} → st ≡ stateFrom state → a ≡ checked st slip
+    → x ≡ judged a state held → x ≡ checkCall state slip held
 unfolding checkCall
-check-call state slip held v es ev ex =
-    ex
-    ∙ ap₂ (λ (n : ℕ) (t : Bool). judged n t state held) (ev .0) (ev .1)
-    ∙ ap (λ (t : State). judged (checkNumber (t .n) slip) (genuine t slip) state held) es
+check-call state slip held es ea ex =
+    ex ∙ ap (λ (b : CheckAnswer). judged b state held) (ea ∙ ap (λ (t : State). checked t slip) es)

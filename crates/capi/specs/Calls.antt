@@ -1,13 +1,13 @@
 -- The calls on a lent state, for all inputs: the answer's number, and what state, count, slip and verdict hold afterwards. Each is the file
 -- keeper's own definition between `stateFrom` and `stateBytes`; a refusal leaves what stood there.
 -- Assumes nothing.
-use mathlib.Core.Bool.{Bool, cond}
+use mathlib.Core.Bool.{cond}
 use mathlib.Core.List.{List}
 use Prim.Native.Nat.{ℕ}
 use lib.Dec.{eqb}
 use Rattle.file.specs.Edits.{Edit}
 use Rattle.file.specs.States.{StateAnswer, started, readFile, edited}
-use Rattle.file.specs.Slips.{SealAnswer, sealed, checkNumber, genuine}
+use Rattle.file.specs.Slips.{SealAnswer, sealed, CheckAnswer, checked}
 use Rattle.capi.specs.Bytes.{stateBytes, stateFrom}
 
 -- ---- the five edits
@@ -17,12 +17,12 @@ pub record EditCall : Type 0 where
   pub state : List ℕ
   pub count : ℕ
 
-abbrev pub editAnswer : (number : ℕ) (state : List ℕ) (count : ℕ) → EditCall
-editAnswer number state count = record { number = number; state = state; count = count }
+abbrev pub editResult : (number : ℕ) (state : List ℕ) (count : ℕ) → EditCall
+editResult number state count = record { number = number; state = state; count = count }
 
 -- what a call on a state leaves: where it is accepted, its state's bytes and its count; where it is refused, what stood there
 unfoldable pub kept : StateAnswer → (state : List ℕ) (count : ℕ) → EditCall
-kept a state count = cond (eqb (a .number) 0) (editAnswer 0 (stateBytes (a .state)) (a .count)) (editAnswer (a .number) state count)
+kept a state count = cond (eqb (a .number) 0) (editResult 0 (stateBytes (a .state)) (a .count)) (editResult (a .number) state count)
 
 unfoldable pub editCall : (state : List ℕ) → Edit → (count : ℕ) → EditCall
 editCall state e count = kept (edited (stateFrom state) e) state count
@@ -33,12 +33,12 @@ pub record StartCall : Type 0 where
   pub number : ℕ
   pub state : List ℕ
 
-abbrev pub startAnswer : (number : ℕ) (state : List ℕ) → StartCall
-startAnswer number state = record { number = number; state = state }
+abbrev pub startResult : (number : ℕ) (state : List ℕ) → StartCall
+startResult number state = record { number = number; state = state }
 
 -- the same, with no count
 unfoldable pub begun : StateAnswer → (state : List ℕ) → StartCall
-begun a state = cond (eqb (a .number) 0) (startAnswer 0 (stateBytes (a .state))) (startAnswer (a .number) state)
+begun a state = cond (eqb (a .number) 0) (startResult 0 (stateBytes (a .state))) (startResult (a .number) state)
 
 unfoldable pub startCall : (key : List ℕ) (arm last n : ℕ) (state : List ℕ) → StartCall
 startCall key arm last n state = begun (started key arm last n) state
@@ -53,12 +53,12 @@ pub record SealCall : Type 0 where
   pub state : List ℕ
   pub slip : List ℕ
 
-abbrev pub sealAnswer : (number : ℕ) (state slip : List ℕ) → SealCall
-sealAnswer number state slip = record { number = number; state = state; slip = slip }
+abbrev pub sealResult : (number : ℕ) (state slip : List ℕ) → SealCall
+sealResult number state slip = record { number = number; state = state; slip = slip }
 
 -- what a seal leaves: where it is accepted, its state's bytes; the slip is the file keeper's either way
 unfoldable pub stamped : SealAnswer → (state : List ℕ) → SealCall
-stamped a state = sealAnswer (a .number) (cond (eqb (a .number) 0) (stateBytes (a .state)) state) (a .slip)
+stamped a state = sealResult (a .number) (cond (eqb (a .number) 0) (stateBytes (a .state)) state) (a .slip)
 
 unfoldable pub sealCall : (state slip : List ℕ) → SealCall
 sealCall state slip = stamped (sealed (stateFrom state) slip) state
@@ -70,12 +70,12 @@ pub record CheckCall : Type 0 where
   pub state : List ℕ
   pub verdict : ℕ
 
-abbrev pub checkAnswer : (number : ℕ) (state : List ℕ) (verdict : ℕ) → CheckCall
-checkAnswer number state verdict = record { number = number; state = state; verdict = verdict }
+abbrev pub checkResult : (number : ℕ) (state : List ℕ) (verdict : ℕ) → CheckCall
+checkResult number state verdict = record { number = number; state = state; verdict = verdict }
 
 -- what a check leaves: the state as it was; the verdict is 1 for genuine and 0 for not, and where check refuses, what stood there
-unfoldable pub judged : (number : ℕ) → Bool → (state : List ℕ) (verdict : ℕ) → CheckCall
-judged number fits state verdict = checkAnswer number state (cond (eqb number 0) (cond fits 1 0) verdict)
+unfoldable pub judged : CheckAnswer → (state : List ℕ) (verdict : ℕ) → CheckCall
+judged a state verdict = checkResult (a .number) state (cond (eqb (a .number) 0) (cond (a .genuine) 1 0) verdict)
 
 unfoldable pub checkCall : (state slip : List ℕ) (verdict : ℕ) → CheckCall
-checkCall state slip verdict = judged (checkNumber (stateFrom state .n) slip) (genuine (stateFrom state) slip) state verdict
+checkCall state slip verdict = judged (checked (stateFrom state) slip) state verdict

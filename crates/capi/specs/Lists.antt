@@ -4,17 +4,17 @@
 use mathlib.Core.Path.{_≡_}
 use mathlib.Core.List.{List, [], _∷_, _++_}
 use Prim.Native.Nat.{ℕ, _+_}
-use Rattle.file.specs.Slips.{sealed, checkNumber, genuine}
+use Rattle.file.specs.Slips.{sealed, checked}
 use Rattle.file.specs.Machine.{Call, edit, seal, check}
 use Rattle.file.specs.Runs.{Run}
 use Rattle.capi.specs.Bytes.{stateFrom}
-use Rattle.capi.specs.Calls.{EditCall, editAnswer, editCall, sealCall, checkCall, judged}
+use Rattle.capi.specs.Calls.{EditCall, editResult, editCall, sealCall, checkCall, judged}
 
 -- one call: its number, the lent state afterwards and the count it reports, 0 where it reports none
 unfoldable pub lentCall : List ℕ → Call → EditCall
 lentCall state (edit e) = editCall state e 0
-lentCall state (seal out) = editAnswer (sealCall state out .number) (sealCall state out .state) 0
-lentCall state (check slip) = editAnswer (checkCall state slip 0 .number) (checkCall state slip 0 .state) 0
+lentCall state (seal out) = editResult (sealCall state out .number) (sealCall state out .state) 0
+lentCall state (check slip) = editResult (checkCall state slip 0 .number) (checkCall state slip 0 .state) 0
 
 -- the lent state, the numbers answered and the sum of the counts reported
 pub record LentRun : Type 0 where
@@ -43,6 +43,4 @@ pub record Boundary (l : LentRun) (r : Run) : Type 0 where
   pub answers : l .answers ≡ r .answers
   pub total : l .total ≡ r .total
   pub slips : (out : List ℕ) → sealCall (l .state) out .slip ≡ sealed (r .state) out .slip
-  pub verdicts :
-      (slip : List ℕ) (verdict : ℕ)
-      → checkCall (l .state) slip verdict ≡ judged (checkNumber (r .state .n) slip) (genuine (r .state) slip) (l .state) verdict
+  pub verdicts : (slip : List ℕ) (verdict : ℕ) → checkCall (l .state) slip verdict ≡ judged (checked (r .state) slip) (l .state) verdict

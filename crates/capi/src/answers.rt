@@ -7,7 +7,7 @@ ghost use Rattle.cipher.specs.Aes;
 ghost use Rattle.field.specs.Field;
 ghost use Rattle.file.specs.Causes;
 ghost use Rattle.file.specs.States.{stateAnswer};
-ghost use Rattle.capi.specs.Calls.{editAnswer, kept};
+ghost use Rattle.capi.specs.Calls.{editResult, kept};
 
 // The number of a cipher's answer.
 pub fn cipher_number(a: cipher::Answer) -> u64
@@ -49,7 +49,7 @@ pub fn file_number(a: file::causes::Answer) -> u64
 // What a call on a state answered, put where the caller wants it: where it was accepted, the state and its count are written; where it was
 // refused, both stay as they were.
 pub fn keep(e: Edited, state: &mut [u8; 84], count: &mut u64) -> u64
-    ensures { λ r. ⌜ editAnswer r (now (state .exit)) (now (count .exit)) ≡ kept (stateAnswer e) (now (state .entry)) (now (count .entry)) ⌝ }
+    ensures { λ r. ⌜ editResult r (now (state .exit)) (now (count .exit)) ≡ kept (stateAnswer e) (now (state .entry)) (now (count .entry)) ⌝ }
 {
     let outcome = e.outcome;
     match outcome {

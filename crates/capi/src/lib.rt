@@ -17,7 +17,7 @@ ghost use Rattle.cipher.specs.Aes.{encryptNumber, encryptOutput};
 ghost use Rattle.field.specs.Field.{multiplyNumber, multiplyOutput, ghashNumber, ghashOutput};
 ghost use Rattle.file.specs.Tags.{gmacNumber, gmacOutput};
 ghost use Rattle.file.specs.Edits;
-ghost use Rattle.capi.specs.Calls.{editAnswer, editCall, startAnswer, startCall, readCall, sealAnswer, sealCall, checkAnswer, checkCall};
+ghost use Rattle.capi.specs.Calls.{editResult, editCall, startResult, startCall, readCall, sealResult, sealCall, checkResult, checkCall};
 
 // AES-128 of one block. Refused, in this order, with 1 where key or block is not 16 bytes and with 7 where out is not.
 #[no_mangle]
@@ -67,7 +67,7 @@ pub extern "C" fn armfile_start(
     n: u64,
     state: &mut [u8; 84],
 ) -> u64
-    ensures { λ r. ⌜ startAnswer r (now (state .exit)) ≡ startCall (now (key .entry)) arm last n (now (state .entry)) ⌝ }
+    ensures { λ r. ⌜ startResult r (now (state .exit)) ≡ startCall (now (key .entry)) arm last n (now (state .entry)) ⌝ }
 {
     let mut none = 0u64;
     keep(State::start(key, arm, last, n), state, &mut none)
@@ -83,7 +83,7 @@ pub extern "C" fn armfile_read(
     file: &[u8],
     state: &mut [u8; 84],
 ) -> u64
-    ensures { λ r. ⌜ startAnswer r (now (state .exit)) ≡ readCall (now (key .entry)) arm last (now (file .entry)) (now (state .entry)) ⌝ }
+    ensures { λ r. ⌜ startResult r (now (state .exit)) ≡ readCall (now (key .entry)) arm last (now (file .entry)) (now (state .entry)) ⌝ }
 {
     let mut none = 0u64;
     keep(State::read(key, arm, last, file), state, &mut none)
@@ -98,7 +98,7 @@ pub extern "C" fn armfile_change(
     new: &[u8],
     count: &mut u64,
 ) -> u64
-    ensures { λ r. ⌜ editAnswer r (now (state .exit)) (now (count .exit))
+    ensures { λ r. ⌜ editResult r (now (state .exit)) (now (count .exit))
         ≡ editCall (now (state .entry)) (Edits.change p (now (old .entry)) (now (new .entry))) (now (count .entry)) ⌝ }
 {
     let st = decode(state);
@@ -108,7 +108,7 @@ pub extern "C" fn armfile_change(
 // The given bytes go after the last. Refused as `State::append` is; state and count then stay as they were.
 #[no_mangle]
 pub extern "C" fn armfile_append(state: &mut [u8; 84], bytes: &[u8], count: &mut u64) -> u64
-    ensures { λ r. ⌜ editAnswer r (now (state .exit)) (now (count .exit))
+    ensures { λ r. ⌜ editResult r (now (state .exit)) (now (count .exit))
         ≡ editCall (now (state .entry)) (Edits.append (now (bytes .entry))) (now (count .entry)) ⌝ }
 {
     let st = decode(state);
@@ -118,7 +118,7 @@ pub extern "C" fn armfile_append(state: &mut [u8; 84], bytes: &[u8], count: &mut
 // The given bytes go before the first. Refused as `State::prepend` is; state and count then stay as they were.
 #[no_mangle]
 pub extern "C" fn armfile_prepend(state: &mut [u8; 84], bytes: &[u8], count: &mut u64) -> u64
-    ensures { λ r. ⌜ editAnswer r (now (state .exit)) (now (count .exit))
+    ensures { λ r. ⌜ editResult r (now (state .exit)) (now (count .exit))
         ≡ editCall (now (state .entry)) (Edits.prepend (now (bytes .entry))) (now (count .entry)) ⌝ }
 {
     let st = decode(state);
@@ -128,7 +128,7 @@ pub extern "C" fn armfile_prepend(state: &mut [u8; 84], bytes: &[u8], count: &mu
 // The given bytes leave the front. Refused as `State::drop_front` is; state and count then stay as they were.
 #[no_mangle]
 pub extern "C" fn armfile_drop_front(state: &mut [u8; 84], bytes: &[u8], count: &mut u64) -> u64
-    ensures { λ r. ⌜ editAnswer r (now (state .exit)) (now (count .exit))
+    ensures { λ r. ⌜ editResult r (now (state .exit)) (now (count .exit))
         ≡ editCall (now (state .entry)) (Edits.dropFront (now (bytes .entry))) (now (count .entry)) ⌝ }
 {
     let st = decode(state);
@@ -138,7 +138,7 @@ pub extern "C" fn armfile_drop_front(state: &mut [u8; 84], bytes: &[u8], count: 
 // The given bytes leave the end. Refused as `State::cut_tail` is; state and count then stay as they were.
 #[no_mangle]
 pub extern "C" fn armfile_cut_tail(state: &mut [u8; 84], bytes: &[u8], count: &mut u64) -> u64
-    ensures { λ r. ⌜ editAnswer r (now (state .exit)) (now (count .exit))
+    ensures { λ r. ⌜ editResult r (now (state .exit)) (now (count .exit))
         ≡ editCall (now (state .entry)) (Edits.cutTail (now (bytes .entry))) (now (count .entry)) ⌝ }
 {
     let st = decode(state);
@@ -149,7 +149,7 @@ pub extern "C" fn armfile_cut_tail(state: &mut [u8; 84], bytes: &[u8], count: &m
 // is; state and slip then stay as they were.
 #[no_mangle]
 pub extern "C" fn armfile_seal(state: &mut [u8; 84], slip: &mut [u8]) -> u64
-    ensures { λ r. ⌜ sealAnswer r (now (state .exit)) (now (slip .exit)) ≡ sealCall (now (state .entry)) (now (slip .entry)) ⌝ }
+    ensures { λ r. ⌜ sealResult r (now (state .exit)) (now (slip .exit)) ≡ sealCall (now (state .entry)) (now (slip .entry)) ⌝ }
 {
     let st = decode(state);
     let sealed = st.seal(slip);
@@ -166,7 +166,7 @@ pub extern "C" fn armfile_seal(state: &mut [u8; 84], slip: &mut [u8]) -> u64
 // was. The state stays as it was.
 #[no_mangle]
 pub extern "C" fn armfile_check(state: &mut [u8; 84], slip: &[u8], verdict: &mut u8) -> u64
-    ensures { λ r. ⌜ checkAnswer r (now (state .exit)) (now (verdict .exit))
+    ensures { λ r. ⌜ checkResult r (now (state .exit)) (now (verdict .exit))
         ≡ checkCall (now (state .entry)) (now (slip .entry)) (now (verdict .entry)) ⌝ }
 {
     let st = decode(state);

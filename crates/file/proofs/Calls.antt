@@ -14,7 +14,7 @@ use Rattle.field.specs.Field.{limit, value}
 use Rattle.file.specs.declared.states.State.{State}
 use Rattle.file.specs.Edits.{Edit, kindOf, placeOf, given, replacing, lengthAfter, countOf}
 use Rattle.file.specs.States.{accepted, refused, moved, sumAfter, editedBy, edited, refusalOf}
-use Rattle.file.specs.Slips.{SealAnswer, sealNumber, checkNumber, sealed, numbered, slipBytes, stateTag}
+use Rattle.file.specs.Slips.{SealAnswer, sealNumber, checkNumber, checked, sealed, numbered, slipBytes, stateTag}
 use Rattle.file.specs.Machine.{Call, edit, seal, check, Machine, callNumber, machineNumber, taken, step, callCount, countLimit}
 use Rattle.file.specs.Runs.{stateAfter, answerOf, reported}
 use Rattle.file.proofs.EditLaws.{nothing-kept, count-within}
@@ -87,7 +87,7 @@ seal-number st st′ r out slip false e = refl
 -- is the machine's
 pub answer-agrees : (st : State) (m : Machine) (c : Call) → st .n ≡ length (m .bytes) → st .last ≡ m .last
     → answerOf st c ≡ machineNumber m c
-unfolding answerOf machineNumber callNumber edited editedBy refusalOf sealed
+unfolding answerOf machineNumber callNumber edited editedBy refusalOf sealed checked
 answer-agrees st m (edit e) n l = edit-number st _ _ _ _ (eqb (length (given e)) 0) refl ∙ ap (λ (x : ℕ). refusalOf x e) n
 answer-agrees st m (seal out) n l = seal-number st _ _ out _ _ refl ∙ ap₂ (λ (x y : ℕ). sealNumber x y out) n l
 answer-agrees st m (check slip) n l = ap (λ (x : ℕ). checkNumber x slip) n

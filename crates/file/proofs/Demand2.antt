@@ -12,7 +12,7 @@ use Rattle.field.proofs.Values.{value-lt}
 use Rattle.file.specs.declared.states.State.{State}
 use Rattle.file.specs.Tags.{gmac}
 use Rattle.file.specs.States.{started, readFile}
-use Rattle.file.specs.Slips.{slipBytes, slipArm, slipSeal, nonceOf, stateTag, sealed}
+use Rattle.file.specs.Slips.{slipBytes, slipArm, slipSeal, nonceOf, stateTag, sealed, checked}
 use Rattle.file.specs.Machine.{Call, seal, Machine, machineNumber}
 use Rattle.file.specs.Runs.{Run, fromStart, fromRead}
 use Rattle.file.specs.Demands.{Fits, Sealing}
@@ -71,6 +71,7 @@ module _ (key : List ℕ) (arm : ℕ) (st : State) (m : Machine) (h : Holds key 
 
 -- demand 2 of a run whose state holds what its machine does, with the sum of its bytes
 sealing : (key : List ℕ) (arm last : ℕ) (r : Run) → arm < 2 ^ 32 → Agrees key arm last r → r .truth → Sealing key arm r
+unfolding checked
 sealing key arm last r w g t =
     let h = g .holds in
     let s = g .summed t in

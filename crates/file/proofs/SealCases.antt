@@ -22,7 +22,7 @@ use Rattle.file.specs.declared.slips.Opened.{Opened}
 use Rattle.file.specs.declared.slips.Opened.the-variants as opened
 use Rattle.file.specs.Causes.{causeNumber}
 use Rattle.file.specs.Tags.{tagOf}
-use Rattle.file.specs.Slips.{nonceOf, stateTag, slipBytes, sealNumber, SealAnswer, numbered, sealed, checkNumber, genuine, openNumber}
+use Rattle.file.specs.Slips.{nonceOf, stateTag, slipBytes, sealNumber, SealAnswer, numbered, sealed, checkNumber, genuine, CheckAnswer, checked, openNumber}
 use Rattle.file.specs.Slips.{SlipFields, openedOf, opening, slipLength, slipArm, slipSeal, slipTag}
 use Rattle.file.proofs.StoreLaws.{stored-none, stored-next, stored-all}
 
@@ -158,38 +158,46 @@ opens {slip} {o} {f} e is =
 
 -- ---- check
 
+-- what is known of an opened slip gives the answer where it is refused
+pub refusal-told : {o p : Opened} → o ≡ p
+    → _≡_ {A = CheckAnswer} (record { number = openedOf p .number; genuine = false }) (record { number = openedOf o .number; genuine = false })
+refusal-told e = ap (λ (x : Opened). record { number = openedOf x .number; genuine = false }) (sym e)
+
 module _ (st : State) (slip : List ℕ) where
-  -- the verdict's number is n, and whether it is genuine is g
+  -- the answer's number is n, and whether the slip is genuine is g
   abbrev pub Judges : ℕ → Bool → Type 0
-  Judges n g = (n ≡ checkNumber (st .n) slip) × (g ≡ genuine st slip)
+  Judges n g = _≡_ {A = CheckAnswer} (record { number = n; genuine = g }) (checked st slip)
+
+  judges : {n : ℕ} {g : Bool} → n ≡ checkNumber (st .n) slip → g ≡ genuine st slip → Judges n g
+  unfolding checked
+  judges e f = λ j. record { number = e j; genuine = f j }
 
   pub check-long : limit < st .n → Judges 2 false
   unfolding checkNumber genuine
-  check-long x = (simp (lt-ltb _ _ x), simp (lt-ltb _ _ x))
+  check-long x = judges (simp (lt-ltb _ _ x)) (simp (lt-ltb _ _ x))
 
   module _ (x : st .n ≤ limit) where
-    pub check-refused : {o : Opened} {cause : Cause} {n : ℕ} {g : Bool} → openedOf o ≡ opening slip → o ≡ opened.Refused cause
-        → (n ≡ openedOf o .number) × (g ≡ false) → Judges n g
+    pub check-refused : {o : Opened} {cause : Cause} {a : CheckAnswer} → openedOf o ≡ opening slip → o ≡ opened.Refused cause
+        → a ≡ record { number = openedOf o .number; genuine = false } → a ≡ checked st slip
     unfolding checkNumber genuine
-    check-refused {o} {cause} {n} {g} e is r =
+    check-refused {o} {cause} {a} e is r =
         let number : openedOf o .number ≡ openNumber slip = ap (λ (y : SlipFields). y .number) e ∙ opening-number slip in
         let y : openNumber slip ≡ 0 → ⊥ = λ z. cause-counted cause (ap (λ (p : Opened). openedOf p .number) (sym is) ∙ number ∙ z) in
-        (simp (le-ltb _ _ x) (r .0 ∙ number), simp (le-ltb _ _ x, ne-eqb _ _ y) (r .1))
+        r ∙ judges (simp (le-ltb _ _ x) number) (simp (le-ltb _ _ x, ne-eqb _ _ y))
 
     module _ {f : Fields} (o : Opens slip f) where
       pub check-length : (f .length ≡ st .n → ⊥) → Judges 0 false
       unfolding checkNumber genuine
       check-length y =
           let z : slipLength slip ≡ st .n → ⊥ = λ e. y (sym (o .count) ∙ e) in
-          (simp (le-ltb _ _ x) (sym (o .accepted)), simp (le-ltb _ _ x, eq-eqb _ _ (o .accepted), ne-eqb _ _ z))
+          judges (simp (le-ltb _ _ x) (sym (o .accepted))) (simp (le-ltb _ _ x, eq-eqb _ _ (o .accepted), ne-eqb _ _ z))
 
       pub check-arm : f .length ≡ st .n → (f .arm ≡ st .arm → ⊥) → Judges 0 false
       unfolding checkNumber genuine
       check-arm y z =
-          let w : slipArm slip ≡ st .arm → ⊥ = λ e. z (sym (o .arm-is) ∙ e) in (
-            simp (le-ltb _ _ x) (sym (o .accepted)),
-            simp (le-ltb _ _ x, eq-eqb _ _ (o .accepted), eq-eqb _ _ (o .count ∙ y), ne-eqb _ _ w),
-          )
+          let w : slipArm slip ≡ st .arm → ⊥ = λ e. z (sym (o .arm-is) ∙ e) in
+          judges (simp (le-ltb _ _ x) (sym (o .accepted)))
+          (simp (le-ltb _ _ x, eq-eqb _ _ (o .accepted), eq-eqb _ _ (o .count ∙ y), ne-eqb _ _ w))
 
       -- mine is the state's tag under the slip's nonce, and g whether the two tags are one
       pub check-tag : {mine : Block} {g : Bool} → f .length ≡ st .n → f .arm ≡ st .arm → mine ≡ stateTag st (f .arm) (f .number)
@@ -198,8 +206,7 @@ module _ (st : State) (slip : List ℕ) where
       check-tag {mine} {g} y z m e =
           let tag : value mine ≡ value (stateTag st (slipArm slip) (slipSeal slip)) =
           ap value (m ∙ ap₂ (stateTag st) (sym (o .arm-is)) (sym (o .seal-is)))
-          in (
-            simp (le-ltb _ _ x) (sym (o .accepted)),
-            simp (le-ltb _ _ x, eq-eqb _ _ (o .accepted), eq-eqb _ _ (o .count ∙ y), eq-eqb _ _ (o .arm-is ∙ z))
-                (e ∙ ap₂ eqb (sym (o .tag-is)) tag),
-          )
+          in
+          judges (simp (le-ltb _ _ x) (sym (o .accepted)))
+          (simp (le-ltb _ _ x, eq-eqb _ _ (o .accepted), eq-eqb _ _ (o .count ∙ y), eq-eqb _ _ (o .arm-is ∙ z))
+          (e ∙ ap₂ eqb (sym (o .tag-is)) tag))

@@ -1,6 +1,5 @@
 -- The numbers of the causes (document 01, "Causes and their numbers"), and each crate answer read in them.
 -- Assumes nothing.
-use mathlib.Core.Bool.{Bool, true, false}
 use Prim.Native.Nat.{ℕ}
 use Rattle.file.specs.declared.causes.Cause.{Cause}
 use Rattle.file.specs.declared.causes.Cause.the-variants.{KeyLength, TooLong, OutOfFile, UnequalPair, BrokenBlock, NumbersUsed, OutputLength, SlipVersion, EmptyNonce}
@@ -8,8 +7,6 @@ use Rattle.file.specs.declared.causes.Answer.{Answer}
 use Rattle.file.specs.declared.causes.Answer.the-variants as answer
 use Rattle.file.specs.declared.states.Outcome.{Outcome}
 use Rattle.file.specs.declared.states.Outcome.the-variants as outcome
-use Rattle.file.specs.declared.slips.Verdict.{Verdict}
-use Rattle.file.specs.declared.slips.Verdict.the-variants as verdict
 
 -- document 01's number of a cause
 abbrev pub causeNumber : Cause → ℕ
@@ -37,15 +34,3 @@ outcomeNumber (outcome.Refused c) = causeNumber c
 abbrev pub outcomeCount : Outcome → ℕ
 outcomeCount (outcome.Done n) = n
 outcomeCount (outcome.Refused c) = 0
-
--- the number of a verdict, 0 where the slip was judged
-abbrev pub verdictNumber : Verdict → ℕ
-verdictNumber verdict.Genuine = 0
-verdictNumber verdict.NotGenuine = 0
-verdictNumber (verdict.Refused c) = causeNumber c
-
--- whether a verdict is genuine
-abbrev pub isGenuine : Verdict → Bool
-isGenuine verdict.Genuine = true
-isGenuine verdict.NotGenuine = false
-isGenuine (verdict.Refused c) = false

@@ -10,7 +10,7 @@ use Rattle.field.specs.Field.{value, limit}
 use Rattle.file.specs.declared.states.State.{State}
 use Rattle.file.specs.Tags.{gmac, tagOf}
 use Rattle.file.specs.States.{readFile}
-use Rattle.file.specs.Slips.{slipVersion, slipLength, slipArm, slipSeal, slipTag, nonceOf, sealed, genuine}
+use Rattle.file.specs.Slips.{slipVersion, slipLength, slipArm, slipSeal, slipTag, nonceOf, sealed, checked}
 use Rattle.file.specs.Machine.{Call, seal, machineNumber}
 use Rattle.file.specs.Runs.{Run, upFrom, fromStart}
 
@@ -26,7 +26,7 @@ pub record Fits (key : List ℕ) (arm : ℕ) (bytes slip : List ℕ) : Type 0 wh
 pub record Sealing (key : List ℕ) (arm : ℕ) (r : Run) : Type 0 where
   pub seals : (out : List ℕ) → machineNumber (r .machine) (seal out) ≡ 0 → Fits key arm (r .machine .bytes) (sealed (r .state) out .slip)
   pub numbers : (out : List ℕ) → machineNumber (r .machine) (seal out) ≡ 0 → slipSeal (sealed (r .state) out .slip) ≡ r .machine .last + 1
-  pub checks : (slip : List ℕ) → (genuine (r .state) slip ≡ true) ↔ Fits key arm (r .machine .bytes) slip
+  pub checks : (slip : List ℕ) → (checked (r .state) slip .genuine ≡ true) ↔ Fits key arm (r .machine .bytes) slip
 
 -- one read of bytes agrees with an editor's state: it is accepted and has the state's sum, length and tag under every nonce
 pub record Read (key : List ℕ) (arm last : ℕ) (bytes : List ℕ) (st : State) : Type 0 where

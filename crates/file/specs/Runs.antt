@@ -7,7 +7,7 @@ use lib.ListN.{length}
 use lib.Dec.{eqb}
 use Rattle.file.specs.declared.states.State.{State}
 use Rattle.file.specs.States.{edited, started, readFile}
-use Rattle.file.specs.Slips.{sealed, checkNumber, slipSeal}
+use Rattle.file.specs.Slips.{sealed, checked, slipSeal}
 use Rattle.file.specs.Machine.{Call, edit, seal, check, Machine, blank, machineNumber, step, callCount, countLimit, True}
 
 -- the editor's side of a call, made of the definitions that the contracts cite
@@ -20,7 +20,7 @@ stateAfter st (check slip) = st
 unfoldable pub answerOf : State → Call → ℕ
 answerOf st (edit e) = edited st e .number
 answerOf st (seal out) = sealed st out .number
-answerOf st (check slip) = checkNumber (st .n) slip
+answerOf st (check slip) = checked st slip .number
 
 -- the count that the editor reports
 unfoldable pub reported : State → Call → ℕ

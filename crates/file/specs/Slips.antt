@@ -1,6 +1,6 @@
 -- The slip, seal and check for all inputs (document 01, "Slip, seal, check").
 -- Assumes nothing.
-use mathlib.Core.Bool.{Bool, false, cond}
+use mathlib.Core.Bool.{Bool, true, false, cond}
 use mathlib.Core.List.{List, _++_}
 use Prim.Native.Nat.{ℕ, _+_, _-_, _*_, _/_, _%_, _^_}
 use lib.Dec.{eqb, ltb}
@@ -11,6 +11,8 @@ use Rattle.file.specs.declared.states.State.{State}
 use Rattle.file.specs.declared.sealing.Sealed.{Sealed}
 use Rattle.file.specs.declared.slips.Opened.{Opened}
 use Rattle.file.specs.declared.slips.Opened.the-variants as opened
+use Rattle.file.specs.declared.slips.Verdict.{Verdict}
+use Rattle.file.specs.declared.slips.Verdict.the-variants as verdict
 use Rattle.file.specs.Causes.{causeNumber, answerNumber}
 use Rattle.file.specs.Tags.{tagOf}
 
@@ -113,3 +115,18 @@ genuine st slip =
     (cond (eqb (slipLength slip) (st .n))
     (cond (eqb (slipArm slip) (st .arm)) (eqb (slipTag slip) (value (stateTag st (slipArm slip) (slipSeal slip)))) false) false)
     false
+
+-- what check answers: the refusal's number or 0, and whether the slip is genuine
+pub record CheckAnswer : Type 0 where
+  pub number : ℕ
+  pub genuine : Bool
+
+-- the crate's verdict read so
+abbrev pub checkAnswer : Verdict → CheckAnswer
+checkAnswer verdict.Genuine = record { number = 0; genuine = true }
+checkAnswer verdict.NotGenuine = record { number = 0; genuine = false }
+checkAnswer (verdict.Refused c) = record { number = causeNumber c; genuine = false }
+
+-- check, for all byte lists as slips
+unfoldable pub checked : State → List ℕ → CheckAnswer
+checked st slip = record { number = checkNumber (st .n) slip; genuine = genuine st slip }

@@ -16,8 +16,7 @@ ghost use mathlib.Core.Bool.{false};
 ghost use Prim.Native.Nat.{_≤_};
 ghost use lib.Dec.{eqb};
 ghost use Rattle.field.specs.Field.{limit, value};
-ghost use Rattle.file.specs.Causes.{verdictNumber, isGenuine};
-ghost use Rattle.file.specs.Slips.{sealAnswer, sealed, checkNumber, genuine, stateTag, openedOf};
+ghost use Rattle.file.specs.Slips.{sealAnswer, sealed, checkAnswer, checked, stateTag, openedOf};
 
 // A state beside what seal answered.
 pub struct Sealed {
@@ -72,7 +71,7 @@ impl State {
     // order, where the state's length passes 2^61 - 1, where the slip is not 36 bytes and where its version is not 1. The tags
     // are compared by one test of all their bits.
     pub fn check(self, slip: &[u8]) -> Verdict
-        ensures { λ r. ⌜ (verdictNumber r ≡ checkNumber (self .n) (now (slip .entry))) × (isGenuine r ≡ genuine self (now (slip .entry))) ⌝ }
+        ensures { λ r. ⌜ checkAnswer r ≡ checked self (now (slip .entry)) ⌝ }
     {
         if self.n > MOST {
             return Verdict::Refused(Cause::TooLong);
@@ -123,7 +122,7 @@ fn same(a: Block, b: Block) -> bool
 
 // The refusal of a slip that did not open.
 fn refusal(o: Opened) -> Verdict
-    ensures { λ r. ⌜ (verdictNumber r ≡ openedOf o .number) × (isGenuine r ≡ false) ⌝ }
+    ensures { λ r. ⌜ checkAnswer r ≡ record { number = openedOf o .number; genuine = false } ⌝ }
 {
     match o {
         Opened::Refused(cause) => Verdict::Refused(cause),

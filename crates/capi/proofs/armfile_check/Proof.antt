@@ -26,19 +26,19 @@ enum-told-2 c = search needs
 returns : tie.Need-returns
 returns c =
     let check = c .before .before .before .before in
-    check-call _ _ _ (check .check .result) (check .before .decode .ensures) (check .check .ensures)
+    check-call _ _ _ (check .before .decode .ensures) (check .check .ensures)
     (judged-refused _ _ _ (c .before .before .v .given .1) (c .number .ensures))
 
 returns-2 : tie.Need-returns-2
 returns-2 c =
     let check = c .before .before in
-    check-call _ _ _ (check .check .result) (check .before .decode .ensures) (check .check .ensures)
+    check-call _ _ _ (check .before .decode .ensures) (check .check .ensures)
     (judged-genuine _ _ _ (c .enum-told .given .1))
 
 returns-3 : tie.Need-returns-3
 returns-3 c =
     let check = c .before .before in
-    check-call _ _ _ (check .check .result) (check .before .decode .ensures) (check .check .ensures)
+    check-call _ _ _ (check .before .decode .ensures) (check .check .ensures)
     (judged-not _ _ _ (c .enum-told2 .given .1))
 
 pub armfile-check-spec : {M : Type 1} → statement M
