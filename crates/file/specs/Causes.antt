@@ -11,7 +11,7 @@ use Rattle.file.specs.declared.states.Outcome.the-variants as outcome
 use Rattle.file.specs.declared.slips.Verdict.{Verdict}
 use Rattle.file.specs.declared.slips.Verdict.the-variants as verdict
 
--- document 01's number of a cause
+-- the number of a cause (document 01, "Causes and their numbers")
 abbrev pub causeNumber : Cause → ℕ
 causeNumber KeyLength = 1
 causeNumber TooLong = 2
@@ -23,28 +23,28 @@ causeNumber OutputLength = 7
 causeNumber SlipVersion = 8
 causeNumber EmptyNonce = 9
 
--- the number of an answer, 0 where the work was done
+-- the number of an answer (document 01, "Causes and their numbers"), 0 where the work was done
 abbrev pub answerNumber : Answer → ℕ
 answerNumber answer.Done = 0
 answerNumber (answer.Refused c) = causeNumber c
 
--- the number of an outcome, 0 where it was accepted
+-- the number of an outcome (document 01, "Causes and their numbers"), 0 where it was accepted
 abbrev pub outcomeNumber : Outcome → ℕ
 outcomeNumber (outcome.Done n) = 0
 outcomeNumber (outcome.Refused c) = causeNumber c
 
--- the count that an outcome reports, 0 where it was refused
+-- the count that an outcome reports (document 01, "The file and its five edits"), 0 where it was refused
 abbrev pub outcomeCount : Outcome → ℕ
 outcomeCount (outcome.Done n) = n
 outcomeCount (outcome.Refused c) = 0
 
--- the number of a verdict, 0 where the slip was judged
+-- the number of a verdict (document 01, "Causes and their numbers"), 0 where the slip was judged
 abbrev pub verdictNumber : Verdict → ℕ
 verdictNumber verdict.Genuine = 0
 verdictNumber verdict.NotGenuine = 0
 verdictNumber (verdict.Refused c) = causeNumber c
 
--- whether a verdict is genuine
+-- whether a verdict is genuine (document 01, "Slip, seal, check")
 abbrev pub isGenuine : Verdict → Bool
 isGenuine verdict.Genuine = true
 isGenuine verdict.NotGenuine = false
