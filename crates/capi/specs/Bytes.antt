@@ -1,5 +1,5 @@
 -- The state as 84 lent bytes, big-endian, in the order of document 01, "What the controller holds": key 16, H 16, I 16, S 16, n 8, arm 4,
--- last used number 8.
+-- last used number 8. The layout is the boundary's own.
 -- Assumes nothing.
 use mathlib.Core.List.{List, _++_}
 use Prim.Native.Nat.{ℕ}
@@ -7,12 +7,12 @@ use lib.ListN.{take}
 use Rattle.field.specs.Field.{number, bytes, blockAt, bytesOf}
 use Rattle.file.specs.declared.states.State.{State}
 
--- the bytes of a state
+-- the bytes of a state; their layout is the boundary's own
 unfoldable pub stateBytes : State → List ℕ
 stateBytes st =
     st .key .bytes ++ bytesOf (st .h) ++ bytesOf (st .i) ++ bytesOf (st .s) ++ bytes 8 (st .n) ++ bytes 4 (st .arm) ++ bytes 8 (st .last)
 
--- the state that 84 bytes hold: after the key's sixteen bytes, blocks 1, 2 and 3, and then the numbers
+-- the state that 84 bytes hold: after the key's sixteen bytes, blocks 1, 2 and 3, and then the numbers; the boundary's own
 unfoldable pub stateFrom : List ℕ → State
 stateFrom b =
     record {

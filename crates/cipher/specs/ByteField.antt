@@ -1,4 +1,5 @@
--- The finite field of bytes, GF(2^8) (FIPS 197, section 4). A byte is a number below 256; its bit i, of weight 2 ^ i, is the coefficient of x^i.
+-- The finite field of bytes, GF(2^8) (FIPS 197, section 4). A byte is a number below 256; its bit i, of weight 2 ^ i, is the coefficient
+-- of x^i.
 -- Assumes nothing.
 use Prim.Native.Nat.{ℕ, zero, suc, _*_, _/_, _%_}
 use lib.Bits.{bitXor}
@@ -8,7 +9,7 @@ infixl 70 _•_
 unfoldable pub xor : ℕ → ℕ → ℕ
 xor a b = bitXor a b
 
--- v where the bit is one, and nothing where it is zero
+-- v where the bit is one, and nothing where it is zero (the choice in XTIMES and in the product, 4.2)
 abbrev pub only : ℕ → ℕ → ℕ
 only zero v = 0
 only (suc b) v = v
@@ -26,11 +27,11 @@ productOf (suc n) b c = xor (only (c % 2) b) (productOf n (xTimes b) (c / 2))
 unfoldable pub _•_ : ℕ → ℕ → ℕ
 _•_ b c = productOf 8 b c
 
--- b^2
+-- b^2, of which the inverse is made (4.4)
 unfoldable pub square : ℕ → ℕ
 square b = b • b
 
--- b^(2 + 4 + .. + 2^n): b^2, times the same power of b^2 with one term less
+-- b^(2 + 4 + .. + 2^n): b^2, times the same power of b^2 with one term less; it serves the definition of inverse (4.4)
 unfoldable pub evenPower : ℕ → ℕ → ℕ
 evenPower zero b = 1
 evenPower (suc n) b = square b • evenPower n (square b)

@@ -1,5 +1,5 @@
--- The four transformations of the state (FIPS 197, sections 5.1.1 to 5.1.4). The state s has its byte in row r and column c at place r + 4·c
--- of a list of sixteen (section 3.4).
+-- The four transformations of the state (FIPS 197, sections 5.1.1 to 5.1.4). The state s has its byte in row r and column c at place
+-- r + 4·c of a list of sixteen (section 3.4).
 -- Assumes nothing.
 use mathlib.Core.List.{List}
 use Prim.Native.Nat.{ℕ, _+_, _*_, _/_, _%_}
@@ -7,7 +7,7 @@ use Rattle.cipher.specs.Lists.{tab, at}
 use Rattle.cipher.specs.ByteField.{xor, _•_}
 use Rattle.cipher.specs.Substitution.{sbox}
 
--- the byte of the state in row r and column c
+-- the byte of the state in row r and column c (3.4)
 abbrev pub entry : List ℕ → ℕ → ℕ → ℕ
 entry s r c = at s (r + 4 * c)
 

@@ -21,7 +21,7 @@ RotWord a = tab 4 (λ j. at a ((j + 1) % 4))
 unfoldable pub SubWord : List ℕ → List ℕ
 SubWord a = tab 4 (λ j. sbox (at a j))
 
--- x^n in the byte field
+-- x^n in the byte field, the first byte of Rcon[n + 1] (5.2)
 unfoldable pub xPower : ℕ → ℕ
 xPower zero = 1
 xPower (suc n) = xTimes (xPower n)

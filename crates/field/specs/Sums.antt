@@ -11,7 +11,7 @@ use Rattle.field.specs.Powers.{power}
 unfoldable pub blocks : ℕ → ℕ
 blocks n = (n + 15) / 16
 
--- of that sum over m blocks, the first i terms
+-- of the sum S over m blocks, the first i terms (document 01, "Sum, hash, tag")
 unfoldable pub terms : Block → List ℕ → ℕ → ℕ → Block
 terms h s m zero = nil
 terms h s m (suc i) = terms h s m i ⊕ blockAt s i • power h (m - i)

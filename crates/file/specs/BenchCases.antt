@@ -10,6 +10,7 @@ use Rattle.file.specs.declared.geometry.Kind.the-variants.{Change, Appen
 use Rattle.file.specs.Edits.{countOf}
 use Rattle.file.specs.Slips.{slipBytes}
 
+-- the cases marked with a star, one statement (document 01, "Bench cases")
 pub record BenchCases : Type 0 where
   -- one times any block is that block
   pub one-times : (b : Block) → Small b → one • b ≡ b

@@ -8,7 +8,7 @@ use Rattle.file.specs.declared.causes.Answer.the-variants as answer
 use Rattle.file.specs.declared.states.Outcome.{Outcome}
 use Rattle.file.specs.declared.states.Outcome.the-variants as outcome
 
--- document 01's number of a cause
+-- the number of a cause (document 01, "Causes and their numbers")
 abbrev pub causeNumber : Cause → ℕ
 causeNumber KeyLength = 1
 causeNumber TooLong = 2
@@ -20,17 +20,17 @@ causeNumber OutputLength = 7
 causeNumber SlipVersion = 8
 causeNumber EmptyNonce = 9
 
--- the number of an answer, 0 where the work was done
+-- the number of an answer (document 01, "Causes and their numbers"), 0 where the work was done
 abbrev pub answerNumber : Answer → ℕ
 answerNumber answer.Done = 0
 answerNumber (answer.Refused c) = causeNumber c
 
--- the number of an outcome, 0 where it was accepted
+-- the number of an outcome (document 01, "Causes and their numbers"), 0 where it was accepted
 abbrev pub outcomeNumber : Outcome → ℕ
 outcomeNumber (outcome.Done n) = 0
 outcomeNumber (outcome.Refused c) = causeNumber c
 
--- the count that an outcome reports, 0 where it was refused
+-- the count that an outcome reports (document 01, "The file and its five edits"), 0 where it was refused
 abbrev pub outcomeCount : Outcome → ℕ
 outcomeCount (outcome.Done n) = n
 outcomeCount (outcome.Refused c) = 0

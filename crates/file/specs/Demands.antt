@@ -1,4 +1,5 @@
--- Demands 2 and 3 as statements. Their proofs are in proofs/Demand2 and proofs/Demand3.
+-- Demands 2 and 3 as statements (document 01, "Slip, seal, check" and "The file and its five edits"). Their proofs are in proofs/Demand2
+-- and proofs/Demand3.
 -- Assumes nothing.
 use mathlib.Core.Path.{_≡_}
 use mathlib.Core.Bool.{true}
@@ -14,7 +15,8 @@ use Rattle.file.specs.Slips.{slipVersion, slipLength, slipArm, slipSeal,
 use Rattle.file.specs.Machine.{Call, seal, machineNumber}
 use Rattle.file.specs.Runs.{Run, upFrom, fromStart}
 
--- a byte list is a slip of an arm's file: 36 bytes, version 1, that length, that arm, and GMAC of the bytes under the slip's own nonce
+-- a byte list is a slip of an arm's file (document 01, "Slip, seal, check"): 36 bytes, version 1, that length, that arm, and GMAC of the
+-- bytes under the slip's own nonce
 pub record Fits (key : List ℕ) (arm : ℕ) (bytes slip : List ℕ) : Type 0 where
   pub size : length slip ≡ 36
   pub version : slipVersion slip ≡ 1
@@ -22,13 +24,15 @@ pub record Fits (key : List ℕ) (arm : ℕ) (bytes slip : List ℕ) : Type 0 wh
   pub same-arm : slipArm slip ≡ arm
   pub tag : slipTag slip ≡ value (gmac key (nonceOf (slipArm slip) (slipSeal slip)) bytes)
 
--- demand 2 of a run: an accepted seal's slip fits the bytes held and carries the next number, and a byte list is genuine exactly where it fits
+-- demand 2 of a run (document 01, "Slip, seal, check"): an accepted seal's slip fits the bytes held and carries the next number, and a
+-- byte list is genuine exactly where it fits
 pub record Sealing (key : List ℕ) (arm : ℕ) (r : Run) : Type 0 where
   pub seals : (out : List ℕ) → machineNumber (r .machine) (seal out) ≡ 0 → Fits key arm (r .machine .bytes) (sealed (r .state) out .slip)
   pub numbers : (out : List ℕ) → machineNumber (r .machine) (seal out) ≡ 0 → slipSeal (sealed (r .state) out .slip) ≡ r .machine .last + 1
   pub checks : (slip : List ℕ) → (checked (r .state) slip .genuine ≡ true) ↔ Fits key arm (r .machine .bytes) slip
 
--- one read of bytes agrees with an editor's state: it is accepted and has the state's sum, length and tag under every nonce
+-- one read of bytes agrees with an editor's state (document 01, "The file and its five edits"): it is accepted and has the state's sum,
+-- length and tag under every nonce
 pub record Read (key : List ℕ) (arm last : ℕ) (bytes : List ℕ) (st : State) : Type 0 where
   pub accepted : readFile key arm last bytes .number ≡ 0
   pub sum : st .s ≡ readFile key arm last bytes .state .s
@@ -39,7 +43,7 @@ pub record Read (key : List ℕ) (arm last : ℕ) (bytes : List ℕ) (st : State
       ≡ tagOf (readFile key arm last bytes .state .key .bytes) (readFile key arm last bytes .state .h) (readFile key arm last bytes .state .s)
       (readFile key arm last bytes .state .n) nonce
 
--- demand 3 of a list of calls from an accepted start, a field for each clause
+-- demand 3 of a list of calls from an accepted start, a field for each clause (document 01, "The file and its five edits")
 pub record TwoRuns (key : List ℕ) (arm last n : ℕ) (calls : List Call) : Type 0 where
   -- the controller refuses exactly what the plain machine refuses, with the same numbers
   pub refusals : fromStart key arm last n calls .answers ≡ fromStart key arm last n calls .expected

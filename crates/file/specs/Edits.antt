@@ -12,7 +12,7 @@ use Rattle.file.specs.declared.geometry.Measured.the-variants as measure
 use Rattle.field.specs.Field.{blocks, steps, limit}
 use Rattle.file.specs.Causes.{causeNumber}
 
--- an edit with its own bytes
+-- an edit with its own bytes (document 01, "The file and its five edits")
 pub data Edit : Type 0 where
   change : (p : ℕ) (old new : List ℕ) → Edit
   append : (given : List ℕ) → Edit
@@ -20,6 +20,7 @@ pub data Edit : Type 0 where
   dropFront : (given : List ℕ) → Edit
   cutTail : (given : List ℕ) → Edit
 
+-- which of the five edits it is (document 01, "The file and its five edits")
 unfoldable pub kindOf : Edit → Kind
 kindOf (change p old new) = Change
 kindOf (append s) = Append
@@ -27,7 +28,7 @@ kindOf (prepend s) = Prepend
 kindOf (dropFront s) = DropFront
 kindOf (cutTail s) = CutTail
 
--- p of a change
+-- p of a change (document 01, "The file and its five edits"); the others have none, and it is 0
 unfoldable pub placeOf : Edit → ℕ
 placeOf (change p old new) = p
 placeOf (append s) = 0
@@ -35,7 +36,7 @@ placeOf (prepend s) = 0
 placeOf (dropFront s) = 0
 placeOf (cutTail s) = 0
 
--- the given bytes, of a change the old ones
+-- the given bytes, of a change the old ones (document 01, "The file and its five edits")
 unfoldable pub given : Edit → List ℕ
 given (change p old new) = old
 given (append s) = s
@@ -43,7 +44,7 @@ given (prepend s) = s
 given (dropFront s) = s
 given (cutTail s) = s
 
--- the new bytes of a change
+-- the new bytes of a change (document 01, "The file and its five edits"); the others have none
 unfoldable pub replacing : Edit → List ℕ
 replacing (change p old new) = new
 replacing (append s) = []
@@ -51,7 +52,7 @@ replacing (prepend s) = []
 replacing (dropFront s) = []
 replacing (cutTail s) = []
 
--- the refusal's number in document 01's order, or 0: l bytes are given, of a change r new ones
+-- the refusal's number or 0, in the order of document 01, "Causes and their numbers": l bytes are given, of a change r new ones
 unfoldable pub editNumber : Kind → (p l r n : ℕ) → ℕ
 editNumber Change p l r n = cond (eqb l r) (cond (ltb n (p + l)) 3 0) 4
 editNumber Append p l r n = cond (ltb limit (n + l)) 2 0
@@ -59,11 +60,11 @@ editNumber Prepend p l r n = cond (eqb (l % 16) 0) (cond (ltb limit (n + l)) 2 0
 editNumber DropFront p l r n = cond (eqb (l % 16) 0) (cond (ltb n l) 3 0) 5
 editNumber CutTail p l r n = cond (ltb n l) 3 0
 
--- the refusal, or 0: 2 for a length n that passes the limit comes before all else
+-- the refusal, or 0: 2 for a length n that passes the limit comes before all else (document 01, "The file and its five edits")
 unfoldable pub refusalFor : Kind → (p l r n : ℕ) → ℕ
 refusalFor kind p l r n = cond (ltb limit n) 2 (editNumber kind p l r n)
 
--- the place in the file where the given bytes stand
+-- the place in the file where the given bytes stand (document 01, "The file and its five edits")
 unfoldable pub start : Kind → (p l n : ℕ) → ℕ
 start Change p l n = p
 start Append p l n = n
@@ -71,7 +72,7 @@ start Prepend p l n = 0
 start DropFront p l n = 0
 start CutTail p l n = n - l
 
--- the file's length afterwards
+-- the file's length afterwards (document 01, "The file and its five edits")
 unfoldable pub lengthAfter : Kind → (l n : ℕ) → ℕ
 lengthAfter Change l n = n
 lengthAfter Append l n = n + l
@@ -79,11 +80,12 @@ lengthAfter Prepend l n = n + l
 lengthAfter DropFront l n = n - l
 lengthAfter CutTail l n = n - l
 
--- q: how many blocks are touched by l bytes, at least one, that stand at a place
+-- q: how many blocks are touched by l bytes, at least one, that stand at a place (document 01, "The file and its five edits")
 unfoldable pub touched : (at l : ℕ) → ℕ
 touched at l = (at + l - 1) / 16 + 1 - at / 16
 
--- k of document 01's table: m the blocks before, m′ the blocks afterwards, e the last touched block
+-- k of the table (document 01, "The file and its five edits"): m = blocks n, m′ = blocks of the length afterwards,
+-- e = (p + l - 1) / 16 the last touched block, and of drop-front q = touched 0 l
 unfoldable pub exponent : Kind → (p l n : ℕ) → ℕ
 exponent Change p l n = blocks n - 1 - (p + l - 1) / 16
 exponent Append p l n = blocks (n + l) - blocks n
@@ -91,12 +93,12 @@ exponent Prepend p l n = blocks n
 exponent DropFront p l n = blocks n - touched 0 l
 exponent CutTail p l n = blocks n - blocks (n - l)
 
--- the count of an accepted edit: q + seek(k) + 1, and 0 for an edit of no bytes
+-- the count of an accepted edit: q + seek(k) + 1, and 0 for an edit of no bytes (document 01, "The file and its five edits")
 unfoldable pub countOf : Kind → (p l n : ℕ) → ℕ
 countOf kind p l n = cond (eqb l 0) 0 (touched (start kind p l n) l + steps (exponent kind p l n) + 1)
 
--- what an edit does to lengths, whole: the refusal's number or 0, and for an accepted edit of at least one byte how many zero bytes stand before
--- the given ones in their first block, q, k and the length afterwards
+-- what an edit does to lengths, whole: the refusal's number or 0, and for an accepted edit of at least one byte how many zero bytes stand
+-- before the given ones in their first block, q, k and the length afterwards; it serves contracts alone
 pub record Geometry : Type 0 where
   pub number : ℕ
   pub lead : ℕ
@@ -104,6 +106,7 @@ pub record Geometry : Type 0 where
   pub k : ℕ
   pub n : ℕ
 
+-- what an edit of l bytes at p does so to a file of n bytes, r the new bytes of a change; it serves contracts alone
 unfoldable pub geometry : Kind → (p l r n : ℕ) → Geometry
 geometry kind p l r n =
     cond (eqb (refusalFor kind p l r n) 0)
@@ -117,7 +120,7 @@ geometry kind p l r n =
     }))
     (record { number = refusalFor kind p l r n; lead = 0; q = 0; k = 0; n = 0 })
 
--- the crate's answer read so
+-- the crate's answer read so; it serves contracts alone
 abbrev pub geometryOf : Measured → Geometry
 geometryOf (measured.Refused c) = record { number = causeNumber c; lead = 0; q = 0; k = 0; n = 0 }
 geometryOf (measured.Fits s) = record { number = 0; lead = s .lead; q = s .q; k = s .k; n = s .n }

@@ -16,23 +16,25 @@ use Rattle.file.specs.declared.geometry.Kind.{Kind}
 use Rattle.file.specs.Edits.{Edit, kindOf, placeOf, given, replacing, refusalFor, start, lengthAfter, exponent, countOf}
 use Rattle.file.specs.Table.{placedSum, newSum}
 
--- what a call on a state answers, in document 01's numbers: the state afterwards, the refusal's number or 0, and the count reported
+-- what a call on a state answers: the state afterwards, the refusal's number (document 01, "Causes and their numbers") or 0, and the count
 pub record StateAnswer : Type 0 where
   pub state : State
   pub number : ℕ
   pub count : ℕ
 
--- a crate's answer read so
+-- a crate's answer read so; it serves contracts alone
 abbrev pub stateAnswer : Edited → StateAnswer
 stateAnswer r = record { state = r .state; number = outcomeNumber (r .outcome); count = outcomeCount (r .outcome) }
 
+-- the answer that refuses with a number and gives a state (document 01, "Causes and their numbers"); it reports no count
 abbrev pub refused : State → ℕ → StateAnswer
 refused st number = record { state = st; number = number; count = 0 }
 
+-- the answer that accepts, with a state and a count (document 01, "The file and its five edits")
 abbrev pub accepted : State → ℕ → StateAnswer
 accepted st count = record { state = st; number = 0; count = count }
 
--- the state of all zeros, which a refused start or read gives
+-- the state of all zeros, which a refused start or read gives (document 01, "The file and its five edits")
 unfoldable pub zeroState : State
 zeroState =
     record {
@@ -45,33 +47,34 @@ zeroState =
       last = 0;
     }
 
--- the state for a key, with a sum and a length
+-- the state for a key, with its H and I, a sum and a length (document 01, "What the controller holds" and "Field")
 unfoldable pub stateOf : (key : List ℕ) (s : Block) (n arm last : ℕ) → State
 stateOf key s n arm last =
     record { key = record { bytes = key }; h = hashKey key; i = companion (hashKey key); s = s; n = n; arm = arm; last = last }
 
--- a state with its sum and length replaced
+-- a state with its sum and length replaced, as an accepted edit leaves it (document 01, "The file and its five edits")
 unfoldable pub moved : State → Block → ℕ → State
 moved st s n = record { key = st .key; h = st .h; i = st .i; s = s; n = n; arm = st .arm; last = st .last }
 
--- start: refused with 1 and 2 in that order, else n zero bytes with S = 0
+-- start: refused with 1 and 2 in that order, else n zero bytes with S = 0 (document 01, "The file and its five edits")
 unfoldable pub started : (key : List ℕ) (arm last n : ℕ) → StateAnswer
 started key arm last n =
     cond (keyFits key) (cond (leb n limit) (accepted (stateOf key nil n arm last) 0) (refused zeroState 2)) (refused zeroState 1)
 
--- read: the same for a lent file, with S that file's sum
+-- read: the same for a lent file, with S that file's sum (document 01, "The file and its five edits")
 unfoldable pub readFile : (key : List ℕ) (arm last : ℕ) (file : List ℕ) → StateAnswer
 readFile key arm last file =
     cond (keyFits key)
     (cond (leb (length file) limit) (accepted (stateOf key (sum (hashKey key) file) (length file) arm last) 0) (refused zeroState 2))
     (refused zeroState 1)
 
--- the sum of a state after an edit of at least one byte: document 01's table over the state's fields
+-- the sum of a state after an edit of at least one byte: the table over the state's fields (document 01, "The file and its five edits")
 unfoldable pub sumAfter : State → Kind → (p : ℕ) (a b : List ℕ) → Block
 sumAfter st kind p a b =
     newSum kind (st .h) (st .i) (st .s) (placedSum (st .h) (start kind p (length a) (st .n)) a b) (exponent kind p (length a) (st .n))
 
--- an edit of a kind, at p, with given bytes a and of a change new bytes b: refused, or accepted; one of no bytes changes nothing
+-- an edit of a kind (document 01, "The file and its five edits"), at p, with given bytes a and of a change new bytes b: refused, or
+-- accepted; one of no bytes changes nothing
 unfoldable pub editedBy : State → Kind → (p : ℕ) (a b : List ℕ) → StateAnswer
 editedBy st kind p a b =
     cond (eqb (refusalFor kind p (length a) (length b) (st .n)) 0)
@@ -79,10 +82,10 @@ editedBy st kind p a b =
     (accepted (moved st (sumAfter st kind p a b) (lengthAfter kind (length a) (st .n))) (countOf kind p (length a) (st .n))))
     (refused st (refusalFor kind p (length a) (length b) (st .n)))
 
--- the refusal of an edit at a length, or 0
+-- the refusal of an edit at a length, or 0 (document 01, "Causes and their numbers")
 unfoldable pub refusalOf : ℕ → Edit → ℕ
 refusalOf n e = refusalFor (kindOf e) (placeOf e) (length (given e)) (length (replacing e)) n
 
--- an edit, for all five kinds
+-- an edit, for all five kinds (document 01, "The file and its five edits")
 unfoldable pub edited : State → Edit → StateAnswer
 edited st e = editedBy st (kindOf e) (placeOf e) (given e) (replacing e)

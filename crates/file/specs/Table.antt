@@ -1,4 +1,4 @@
--- Document 01's table of edits, row by row: the new sum from S, W, H, I and k.
+-- The table of edits, row by row (document 01, "The file and its five edits"): the new sum from S, W, H, I and k.
 -- Assumes nothing.
 use mathlib.Core.List.{List, _++_}
 use Prim.Native.Nat.{ℕ, _%_}
@@ -8,10 +8,12 @@ use Rattle.file.specs.declared.geometry.Kind.the-variants.{Change, Appen
 use Rattle.field.specs.declared.blocks.Block.{Block}
 use Rattle.field.specs.Field.{_⊕_, _•_, power, sum, xorBytes}
 
--- W: the sum of the given bytes, of a change old + new, at their places in zeroed blocks, counted to the last touched block
+-- W (document 01, "The file and its five edits"): the sum of the given bytes, of a change old + new, at their places in zeroed blocks,
+-- counted to the last touched block
 unfoldable pub placedSum : Block → (at : ℕ) → (given replacing : List ℕ) → Block
 placedSum h at given replacing = sum h (replicate (at % 16) 0 ++ xorBytes given replacing)
 
+-- the new sum, a clause for each row of the table (document 01, "The file and its five edits")
 unfoldable pub newSum : Kind → (h i s w : Block) → ℕ → Block
 newSum Change h i s w k = s ⊕ w • power h k
 newSum Append h i s w k = s • power h k ⊕ w
