@@ -22,8 +22,7 @@ use Rattle.file.specs.Machine.{Call, edit, seal, check, Machine}
 use Rattle.file.specs.Runs.{Run, stateAfter, answerOf, reported, begun, further, run, fromStart, fromRead}
 use Rattle.file.proofs.Invariant.{Holds, small-hash, begun-start, begun-read, holds-start, holds-read, holds-kept}
 use Rattle.capi.specs.Bytes.{stateBytes, stateFrom}
-use Rattle.capi.specs.Calls as calls
-use Rattle.capi.specs.Calls.{EditCall, editResult, kept, editCall, startCall, readCall}
+use Rattle.capi.specs.Calls.{EditCall, editResult, kept, editCall, keptAtStart, startCall, readCall}
 use Rattle.capi.specs.Calls.{SealCall, sealResult, stamped, sealCall, judged, checkCall}
 use Rattle.capi.specs.Lists.{lentCall, LentRun, lentBegun, lentFurther, lentRun, Boundary}
 use Rattle.capi.proofs.StateBytes.{Fits, state-back}
@@ -116,13 +115,13 @@ module _ (key : List ℕ) (arm : ℕ) (k : keyFits key ≡ true) (w : arm < 2 ^ 
 pub boundary-start : (key : List ℕ) (arm last n : ℕ) → started key arm last n .number ≡ 0 → arm < 2 ^ 32 → last < 2 ^ 64
     → (lent : List ℕ) (calls : List Call)
     → Boundary (lentRun (lentBegun (startCall key arm last n lent .state)) calls) (fromStart key arm last n calls)
-unfolding startCall calls.begun lentBegun fromStart begun
+unfolding startCall keptAtStart lentBegun fromStart begun
 boundary-start key arm last n e w l lent calls =
     boundary-run key arm (begun-start key arm last n e .fits) w _ _ calls (holds-start key arm last n e l) (rw (eq-eqb _ 0 e)) refl refl
 
 pub boundary-read : (key : List ℕ) (arm last : ℕ) (file : List ℕ) → readFile key arm last file .number ≡ 0 → arm < 2 ^ 32 → last < 2 ^ 64
     → (lent : List ℕ) (calls : List Call)
     → Boundary (lentRun (lentBegun (readCall key arm last file lent .state)) calls) (fromRead key arm last file calls)
-unfolding readCall calls.begun lentBegun fromRead begun
+unfolding readCall keptAtStart lentBegun fromRead begun
 boundary-read key arm last file e w l lent calls =
     boundary-run key arm (begun-read key arm last file e .fits) w _ _ calls (holds-read key arm last file e l) (rw (eq-eqb _ 0 e)) refl refl

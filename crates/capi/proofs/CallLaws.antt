@@ -22,7 +22,7 @@ use Rattle.file.specs.States.{StateAnswer, stateAnswer, edited}
 use Rattle.file.specs.Slips.{SealAnswer, sealAnswer, sealed, CheckAnswer, checkAnswer, checked}
 use Rattle.file.proofs.ShapeLaws.{cause-pos}
 use Rattle.capi.specs.Bytes.{stateBytes, stateFrom}
-use Rattle.capi.specs.Calls.{EditCall, editResult, kept, editCall, StartCall, startResult, begun}
+use Rattle.capi.specs.Calls.{EditCall, editResult, kept, editCall, StartCall, startResult, keptAtStart}
 use Rattle.capi.specs.Calls.{SealCall, sealResult, stamped, sealCall, CheckCall, checkResult, judged, checkCall}
 
 -- a number that is a cause's is not 0
@@ -64,8 +64,8 @@ kept-begun true n m c b s = refl
 kept-begun false n m c b s = refl
 
 pub begin-call : (state : List ℕ) (count : ℕ) {a b : StateAnswer} {x : EditCall} → a ≡ b → x ≡ kept a state count
-    → startResult (x .number) (x .state) ≡ begun b state
-unfolding kept begun uncounted
+    → startResult (x .number) (x .state) ≡ keptAtStart b state
+unfolding kept keptAtStart uncounted
 begin-call state count {a} {b} e ex =
     ap uncounted (ex ∙ ap (λ (y : StateAnswer). kept y state count) e) ∙ kept-begun (eqb (b .number) 0) _ _ _ _ _
 

@@ -43,16 +43,16 @@ abbrev pub startResult : (number : ℕ) (state : List ℕ) → StartCall
 startResult number state = record { number = number; state = state }
 
 -- as `kept`, with no count (document 01, "Causes and their numbers")
-unfoldable pub begun : StateAnswer → (state : List ℕ) → StartCall
-begun a state = cond (eqb (a .number) 0) (startResult 0 (stateBytes (a .state))) (startResult (a .number) state)
+unfoldable pub keptAtStart : StateAnswer → (state : List ℕ) → StartCall
+keptAtStart a state = cond (eqb (a .number) 0) (startResult 0 (stateBytes (a .state))) (startResult (a .number) state)
 
 -- start: the file keeper's `started`, its state as `stateBytes` (document 01, "The file and its five edits")
 unfoldable pub startCall : (key : List ℕ) (arm last n : ℕ) (state : List ℕ) → StartCall
-startCall key arm last n state = begun (started key arm last n) state
+startCall key arm last n state = keptAtStart (started key arm last n) state
 
 -- read: the file keeper's `readFile`, its state as `stateBytes` (document 01, "The file and its five edits")
 unfoldable pub readCall : (key : List ℕ) (arm last : ℕ) (file state : List ℕ) → StartCall
-readCall key arm last file state = begun (readFile key arm last file) state
+readCall key arm last file state = keptAtStart (readFile key arm last file) state
 
 -- ---- seal
 

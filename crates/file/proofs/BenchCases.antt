@@ -1,21 +1,25 @@
 -- Document 01's bench cases, those marked with a star, hold.
--- Those of the field are field's own law (Cases); the counts rest on its values of block counts and steps (Horner, Cases), and the slip's first
--- bytes on the bytes of a number (Bytes).
+-- Those of the field are field's own law (Cases); the counts rest on its values of block counts and steps (Horner, Cases) and on what an edit
+-- reports (Calls), and the slip's first bytes on the bytes of a number (Bytes).
 -- Assumes nothing.
-use mathlib.Core.Path.{_≡_, ap, _∙_}
+use mathlib.Core.Path.{_≡_, refl, ap, _∙_}
 use mathlib.Core.List.{[], _∷_}
 use Prim.Native.Nat.{ℕ, _+_, _*_, _^_, _<_}
 use native.Mathlib.Nat.{le-refl, lt-of-lt-of-le, add-assoc, add-lt-add-of-le-of-lt}
 use lib.Dec.{lit≤}
-use lib.ListN.{take}
+use lib.ListN.{length, take}
 use lib.Seq.{take-at}
 use Rattle.field.specs.Field.{bytes}
 use Rattle.field.proofs.Bytes.{length-bytes, bytes-append, bytes-zero, bytes-suc}
 use Rattle.field.proofs.Horner.{blocks-value}
 use Rattle.field.proofs.Cases.{cases}
-use Rattle.file.specs.Edits.{start, touched, exponent, countOf}
+use borrow.Author.Tests.{eq-eqb}
+use Rattle.file.specs.Edits.{Edit, change, append, prepend, dropFront, cutTail, kindOf, placeOf, given, replacing}
+use Rattle.file.specs.Edits.{editNumber, refusalFor, standsAt, touched, exponent, countOf}
+use Rattle.file.specs.States.{refusalOf}
 use Rattle.file.specs.Slips.{slipValue, slipBytes}
-use Rattle.file.specs.BenchCases.{BenchCases}
+use Rattle.file.specs.BenchCases.{Counts, BenchCases}
+use Rattle.file.proofs.Calls.{edited-number, edited-count}
 
 -- a slip of version 1, length 40, arm 7 and number 1: what stands before the seal number and the tag
 slip-head : (tag : ℕ) → tag < 2 ^ 128 → take 12 (slipBytes 40 7 1 tag) ≡ bytes 12 ((2 ^ 61 + 40) * 2 ^ 32 + 7)
@@ -47,13 +51,22 @@ head-bytes =
       bytes-zero,
     )
 
+-- an edit that gives l bytes and r new ones reports what lengths say
+counted : (e : Edit) (count l r : ℕ) → length (given e) ≡ l → length (replacing e) ≡ r → refusalFor (kindOf e) (placeOf e) l r 40 ≡ 0
+    → countOf (kindOf e) (placeOf e) l 40 ≡ count → Counts e count
+unfolding Counts refusalOf
+counted e count l r el er a c st n =
+    let z : refusalOf (st .n) e ≡ 0 = cc in
+    (edited-number st e ∙ z, edited-count st e ∙ rw (eq-eqb _ _ z) (cc))
+
 pub bench-cases : BenchCases
-unfolding countOf start touched exponent
+unfolding kindOf placeOf given replacing refusalFor editNumber countOf standsAt touched exponent
 bench-cases =
     record {
       one-times = cases .one-times;
       x-times-top = cases .x-times-top;
       hash-of-nothing = cases .hash-of-nothing;
+      blocks-of-one = blocks-value 1;
       hash-under-one = cases .hash-under-one;
       hash-under-x = cases .hash-under-x;
       steps-0 = cases .steps-0;
@@ -62,14 +75,14 @@ bench-cases =
       steps-5 = cases .steps-5;
       steps-255 = cases .steps-255;
       steps-256 = cases .steps-256;
-      change-17 = simp (blocks-value, cases .steps-1);
-      change-15-16 = simp (blocks-value, cases .steps-1);
-      append-8 = simp (blocks-value, cases .steps-0);
-      append-9 = simp (blocks-value, cases .steps-1);
-      prepend-16 = simp (blocks-value, cases .steps-3);
-      drop-16 = simp (blocks-value, cases .steps-2);
-      cut-8 = simp (blocks-value, cases .steps-1);
-      cut-9 = simp (blocks-value, cases .steps-1);
-      cut-40 = simp (blocks-value, cases .steps-3);
+      change-17 = λ old new a b. counted (change 17 old new) 3 1 1 a b refl (simp (blocks-value, cases .steps-1));
+      change-15-16 = λ old new a b. counted (change 15 old new) 4 2 2 a b refl (simp (blocks-value, cases .steps-1));
+      append-8 = λ s a. counted (append s) 2 8 0 a refl refl (simp (blocks-value, cases .steps-0));
+      append-9 = λ s a. counted (append s) 4 9 0 a refl refl (simp (blocks-value, cases .steps-1));
+      prepend-16 = λ s a. counted (prepend s) 5 16 0 a refl refl (simp (blocks-value, cases .steps-3));
+      drop-16 = λ s a. counted (dropFront s) 4 16 0 a refl refl (simp (blocks-value, cases .steps-2));
+      cut-8 = λ s a. counted (cutTail s) 3 8 0 a refl refl (simp (blocks-value, cases .steps-1));
+      cut-9 = λ s a. counted (cutTail s) 4 9 0 a refl refl (simp (blocks-value, cases .steps-1));
+      cut-40 = λ s a. counted (cutTail s) 7 40 0 a refl refl (simp (blocks-value, cases .steps-3));
       slip-begins = λ tag h. slip-head tag h ∙ head-bytes;
     }

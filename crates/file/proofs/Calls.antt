@@ -84,11 +84,16 @@ seal-number : (st st′ : State) (r : ℕ) (out slip : List ℕ) (b : Bool) → 
 seal-number st st′ r out slip true e = sym (eqb-true r 0 e)
 seal-number st st′ r out slip false e = refl
 
--- is the machine's
+-- is the refusal's
+pub edited-number : (st : State) (e : Edit) → edited st e .number ≡ refusalOf (st .n) e
+unfolding edited editedBy refusalOf
+edited-number st e = edit-number st _ _ _ _ (eqb (length (given e)) 0) refl
+
+-- and so the machine's
 pub answer-agrees : (st : State) (m : Machine) (c : Call) → st .n ≡ length (m .bytes) → st .last ≡ m .last
     → answerOf st c ≡ machineNumber m c
-unfolding answerOf machineNumber callNumber edited editedBy refusalOf sealed checked
-answer-agrees st m (edit e) n l = edit-number st _ _ _ _ (eqb (length (given e)) 0) refl ∙ ap (λ (x : ℕ). refusalOf x e) n
+unfolding answerOf machineNumber callNumber sealed checked
+answer-agrees st m (edit e) n l = edited-number st e ∙ ap (λ (x : ℕ). refusalOf x e) n
 answer-agrees st m (seal out) n l = seal-number st _ _ out _ _ refl ∙ ap₂ (λ (x y : ℕ). sealNumber x y out) n l
 answer-agrees st m (check slip) n l = ap (λ (x : ℕ). checkNumber x slip) n
 
@@ -100,7 +105,7 @@ edit-count st st′ r k true true z = sym (z refl)
 edit-count st st′ r k true false z = refl
 edit-count st st′ r k false c z = refl
 
-edited-count : (st : State) (e : Edit)
+pub edited-count : (st : State) (e : Edit)
     → edited st e .count ≡ cond (eqb (refusalOf (st .n) e) 0) (countOf (kindOf e) (placeOf e) (length (given e)) (st .n)) 0
 unfolding edited editedBy refusalOf countOf
 edited-count st e = edit-count st _ _ _ (eqb (refusalOf (st .n) e) 0) (eqb (length (given e)) 0) (λ z. rw z)

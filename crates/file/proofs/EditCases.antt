@@ -25,7 +25,7 @@ use Rattle.file.specs.declared.edits.Factors.{Factors}
 use Rattle.file.specs.declared.edits.Moved.{Moved}
 use Rattle.file.specs.declared.states.State.{State}
 use Rattle.file.specs.Causes.{causeNumber}
-use Rattle.file.specs.Edits.{Geometry, geometry, geometryOf, refusalFor, start, lengthAfter, touched, exponent, countOf}
+use Rattle.file.specs.Edits.{Geometry, geometry, geometryOf, refusalFor, standsAt, lengthAfter, touched, exponent, countOf}
 use Rattle.file.specs.Table.{placedSum, newSum}
 use Rattle.file.specs.States.{accepted, refused, moved, sumAfter, editedBy}
 use Rattle.file.proofs.Accepted.{accepted-as}
@@ -98,8 +98,8 @@ module _ (st : State) (kind : Kind) (p : ℕ) (a b : List ℕ) {m : Measured}
       fits-shape :
           geometryOf (measured.Fits x) ≡ record {
             number = 0;
-            lead = start kind p (length a) (st .n) % 16;
-            q = touched (start kind p (length a) (st .n)) (length a);
+            lead = standsAt kind p (length a) (st .n) % 16;
+            q = touched (standsAt kind p (length a) (st .n)) (length a);
             k = exponent kind p (length a) (st .n);
             n = lengthAfter kind (length a) (st .n);
           }
@@ -111,8 +111,8 @@ module _ (st : State) (kind : Kind) (p : ℕ) (a b : List ℕ) {m : Measured}
       fits-placed f =
           let lead = ap (λ (y : Geometry). y .lead) fits-shape in
           let q = ap (λ (y : Geometry). y .q) fits-shape in
-          let blocks-are = touched-blocks (start kind p (length a) (st .n)) (length a) z in
-          let few = blocks-value (start kind p (length a) (st .n) % 16 + length a) in (
+          let blocks-are = touched-blocks (standsAt kind p (length a) (st .n)) (length a) z in
+          let few = blocks-value (standsAt kind p (length a) (st .n) % 16 + length a) in (
             rw (length-append, length-replicate, length-xor-max, longer f, lead, q) blocks-are,
             omega (arith, q, blocks-are, few, reach kind p (length a) (length b) (st .n) fits-number),
           )

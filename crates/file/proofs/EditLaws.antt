@@ -18,7 +18,7 @@ use Rattle.field.proofs.Steps.{steps-bound}
 use Rattle.file.specs.declared.geometry.Kind.{Kind}
 use Rattle.file.specs.declared.geometry.Kind.the-variants.{Change, DropFront, CutTail}
 use Rattle.file.specs.Edits.{Edit, change, append, prepend, dropFront, cutTail, kindOf, placeOf, given, replacing}
-use Rattle.file.specs.Edits.{start, lengthAfter, touched, exponent, countOf}
+use Rattle.file.specs.Edits.{standsAt, lengthAfter, touched, exponent, countOf}
 use Rattle.file.specs.Table.{placedSum, newSum}
 use Rattle.file.specs.States.{refusalOf}
 use Rattle.file.specs.Machine.{bytesAfter, Named, countLimit}
@@ -123,10 +123,10 @@ cut-kept h f s small b t =
 pub sum-kept :
     (h : Block) (f : List ℕ) (e : Edit) → Small h → refusalOf (length f) e ≡ 0 → length (given e) ≢ 0 → Named f e
     → newSum (kindOf e) h (companion h) (sum h f)
-    (placedSum h (start (kindOf e) (placeOf e) (length (given e)) (length f)) (given e) (replacing e))
+    (placedSum h (standsAt (kindOf e) (placeOf e) (length (given e)) (length f)) (given e) (replacing e))
     (exponent (kindOf e) (placeOf e) (length (given e)) (length f))
     ≡ sum h (bytesAfter f e)
-unfolding newSum start exponent bytesAfter Named kindOf placeOf given replacing
+unfolding newSum standsAt exponent bytesAfter Named kindOf placeOf given replacing
 sum-kept h f (change p old new) small a n t =
     let k = allowed (length f) (change p old new) a in
     change-kept h f old new p (omega arith) (k .fits .0) (k .fits .1) t
@@ -142,7 +142,7 @@ sum-kept h f (cutTail s) small a n t = cut-kept h f s small (allowed (length f) 
 -- the count of an accepted edit, over its place and lengths: nothing where no byte is given, else q + seek(k) + 1 with k at most the larger
 -- block count
 counted-within : (kind : Kind) {p l r n : ℕ} → Accepted kind p l r n → (l ≡ 0) ⊎ (0 < l)
-    → countOf kind p l n ≤ touched (start kind p l n) l + 2 * width (max (blocks n) (blocks (lengthAfter kind l n)))
+    → countOf kind p l n ≤ touched (standsAt kind p l n) l + 2 * width (max (blocks n) (blocks (lengthAfter kind l n)))
 unfolding countOf
 counted-within kind {p} {l} {r} {n} a (inl none) = rw (eq-eqb l 0 none) zero-le
 counted-within kind {p} {l} {r} {n} a (inr some) =

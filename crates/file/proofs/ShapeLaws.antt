@@ -20,7 +20,7 @@ use Rattle.file.specs.declared.geometry.Measured.the-variants as measure
 use Rattle.file.specs.declared.causes.Answer.{Answer}
 use Rattle.file.specs.declared.causes.Answer.the-variants as answer
 use Rattle.file.specs.Causes.{causeNumber, answerNumber}
-use Rattle.file.specs.Edits.{editNumber, refusalFor, start, lengthAfter, touched, exponent, Geometry, geometry, geometryOf}
+use Rattle.file.specs.Edits.{editNumber, refusalFor, standsAt, lengthAfter, touched, exponent, Geometry, geometry, geometryOf}
 use Rattle.file.proofs.Accepted.{accepted}
 
 -- ---- the returns of `within` and `room`
@@ -82,8 +82,8 @@ same-length DropFront p l r n e = e
 same-length CutTail p l r n e = e
 
 -- the bytes of an accepted edit end within the limit
-pub reach : (kind : Kind) (p l r n : ℕ) → refusalFor kind p l r n ≡ 0 → start kind p l n + l ≤ limit
-unfolding start
+pub reach : (kind : Kind) (p l r n : ℕ) → refusalFor kind p l r n ≡ 0 → standsAt kind p l n + l ≤ limit
+unfolding standsAt
 reach Change p l r n e = omega (arith, accepted Change p l r n e)
 reach Append p l r n e = omega (arith, accepted Append p l r n e)
 reach Prepend p l r n e = omega (arith, accepted Prepend p l r n e)
@@ -136,8 +136,8 @@ module _ (kind : Kind) (p l r n : ℕ) where
   pub geometry-fits : refusalFor kind p l r n ≡ 0 → 0 < l
       → geometry kind p l r n ≡ record {
         number = 0;
-        lead = start kind p l n % 16;
-        q = touched (start kind p l n) l;
+        lead = standsAt kind p l n % 16;
+        q = touched (standsAt kind p l n) l;
         k = exponent kind p l n;
         n = lengthAfter kind l n;
       }
@@ -173,26 +173,26 @@ placed-counted at l from to n h eb ec ed =
 
 module _ (kind : Kind) (p l n : ℕ) (e : refusalFor kind p l l n ≡ 0) (h : 0 < l) where
   row-fits : {x : Shape} (at from to after : ℕ) → x ≡ placed at l from to after
-      → start kind p l n ≡ at → exponent kind p l n ≡ blocks to - blocks from → lengthAfter kind l n ≡ after
+      → standsAt kind p l n ≡ at → exponent kind p l n ≡ blocks to - blocks from → lengthAfter kind l n ≡ after
       → geometryOf (measured.Fits x) ≡ geometry kind p l l n
   row-fits at from to after ex es ek en = rw (ex, geometry-fits kind p l l n e h, es, ek, en)
 
   pub row-change : {x : Shape} → kind ≡ Change → x ≡ placed p l (p + l) n n → geometryOf (measured.Fits x) ≡ geometry kind p l l n
-  unfolding start exponent lengthAfter
+  unfolding standsAt exponent lengthAfter
   row-change k ex = row-fits p (p + l) n n ex (rw k) (rw k (omega (arith, blocks-value n, blocks-value (p + l)))) (rw k)
 
   pub row-append : {x : Shape} → kind ≡ Append → x ≡ placed n l n (n + l) (n + l) → geometryOf (measured.Fits x) ≡ geometry kind p l l n
-  unfolding start exponent lengthAfter
+  unfolding standsAt exponent lengthAfter
   row-append k ex = row-fits n n (n + l) (n + l) ex (rw k) (rw k) (rw k)
 
   pub row-prepend : {x : Shape} → kind ≡ Prepend → x ≡ placed 0 l 0 n (n + l) → geometryOf (measured.Fits x) ≡ geometry kind p l l n
-  unfolding start exponent lengthAfter
+  unfolding standsAt exponent lengthAfter
   row-prepend k ex = row-fits 0 0 n (n + l) ex (rw k) (rw k (omega (arith, blocks-value 0))) (rw k)
 
   pub row-drop : {x : Shape} → kind ≡ DropFront → x ≡ placed 0 l l n (n - l) → geometryOf (measured.Fits x) ≡ geometry kind p l l n
-  unfolding start exponent lengthAfter touched
+  unfolding standsAt exponent lengthAfter touched
   row-drop k ex = row-fits 0 l n (n - l) ex (rw k) (rw k (omega (arith, blocks-value n, blocks-value l))) (rw k)
 
   pub row-cut : {x : Shape} → kind ≡ CutTail → x ≡ placed (n - l) l (n - l) n (n - l) → geometryOf (measured.Fits x) ≡ geometry kind p l l n
-  unfolding start exponent lengthAfter
+  unfolding standsAt exponent lengthAfter
   row-cut k ex = row-fits (n - l) (n - l) n (n - l) ex (rw k) (rw k) (rw k)

@@ -1,14 +1,19 @@
 -- Document 01's bench cases, those marked with a star, as one statement about the definitions. Its proof is in proofs/BenchCases.
 -- Assumes nothing.
 use mathlib.Core.Path.{_≡_}
-use mathlib.Core.List.{[], _∷_, _++_}
+use mathlib.Core.List.{List, [], _∷_, _++_}
 use Prim.Native.Nat.{ℕ, _^_, _<_}
-use lib.ListN.{take, replicate}
+use lib.ListN.{length, take, replicate}
 use Rattle.field.specs.declared.blocks.Block.{Block}
-use Rattle.field.specs.Field.{block, Small, nil, one, _•_, ghash, steps}
-use Rattle.file.specs.declared.geometry.Kind.the-variants.{Change, Append, Prepend, DropFront, CutTail}
-use Rattle.file.specs.Edits.{countOf}
+use Rattle.field.specs.Field.{block, Small, nil, one, _•_, blocks, ghash, steps}
+use Rattle.file.specs.declared.states.State.{State}
+use Rattle.file.specs.Edits.{Edit, change, append, prepend, dropFront, cutTail}
+use Rattle.file.specs.States.{edited}
 use Rattle.file.specs.Slips.{slipBytes}
+
+-- an edit of a file of 40 bytes is accepted, whatever else the state holds, and reports this count (document 01, "Bench cases")
+unfoldable pub Counts : Edit → ℕ → Type 0
+Counts e count = (st : State) → st .n ≡ 40 → (edited st e .number ≡ 0) × (edited st e .count ≡ count)
 
 -- the cases marked with a star, one statement (document 01, "Bench cases")
 pub record BenchCases : Type 0 where
@@ -18,7 +23,8 @@ pub record BenchCases : Type 0 where
   pub x-times-top : block 0x40000000000000000000000000000000 • block 1 ≡ block 0xe1000000000000000000000000000000
   -- GHASH of nothing, any H
   pub hash-of-nothing : (h : Block) → ghash h [] [] ≡ nil
-  -- H = one, file 01
+  -- H = one, file 01: its blocks and its hash
+  pub blocks-of-one : blocks 1 ≡ 1
   pub hash-under-one : ghash one (1 ∷ []) [] ≡ block 0x01000000000000080000000000000000
   -- H = x, file fifteen 00 then 01
   pub hash-under-x :
@@ -31,18 +37,18 @@ pub record BenchCases : Type 0 where
   pub steps-255 : steps 255 ≡ 15
   pub steps-256 : steps 256 ≡ 9
   -- n = 40: change byte 17; bytes 15 and 16
-  pub change-17 : countOf Change 17 1 40 ≡ 3
-  pub change-15-16 : countOf Change 15 2 40 ≡ 4
+  pub change-17 : (old new : List ℕ) → length old ≡ 1 → length new ≡ 1 → Counts (change 17 old new) 3
+  pub change-15-16 : (old new : List ℕ) → length old ≡ 2 → length new ≡ 2 → Counts (change 15 old new) 4
   -- n = 40: append 8; append 9
-  pub append-8 : countOf Append 0 8 40 ≡ 2
-  pub append-9 : countOf Append 0 9 40 ≡ 4
+  pub append-8 : (s : List ℕ) → length s ≡ 8 → Counts (append s) 2
+  pub append-9 : (s : List ℕ) → length s ≡ 9 → Counts (append s) 4
   -- n = 40: prepend 16; drop-front 16
-  pub prepend-16 : countOf Prepend 0 16 40 ≡ 5
-  pub drop-16 : countOf DropFront 0 16 40 ≡ 4
+  pub prepend-16 : (s : List ℕ) → length s ≡ 16 → Counts (prepend s) 5
+  pub drop-16 : (s : List ℕ) → length s ≡ 16 → Counts (dropFront s) 4
   -- n = 40: cut 8; cut 9; cut 40
-  pub cut-8 : countOf CutTail 0 8 40 ≡ 3
-  pub cut-9 : countOf CutTail 0 9 40 ≡ 4
-  pub cut-40 : countOf CutTail 0 40 40 ≡ 7
+  pub cut-8 : (s : List ℕ) → length s ≡ 8 → Counts (cutTail s) 3
+  pub cut-9 : (s : List ℕ) → length s ≡ 9 → Counts (cutTail s) 4
+  pub cut-40 : (s : List ℕ) → length s ≡ 40 → Counts (cutTail s) 7
   -- version 1, length 40, arm 7, number 1, whatever the tag
   pub slip-begins :
       (tag : ℕ) → tag < 2 ^ 128 → take 12 (slipBytes 40 7 1 tag) ≡ 0x20 ∷ 0 ∷ 0 ∷ 0 ∷ 0 ∷ 0 ∷ 0 ∷ 0x28 ∷ 0 ∷ 0 ∷ 0 ∷ 7 ∷ []

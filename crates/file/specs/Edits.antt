@@ -65,12 +65,12 @@ unfoldable pub refusalFor : Kind → (p l r n : ℕ) → ℕ
 refusalFor kind p l r n = cond (ltb limit n) 2 (editNumber kind p l r n)
 
 -- the place in the file where the given bytes stand (document 01, "The file and its five edits")
-unfoldable pub start : Kind → (p l n : ℕ) → ℕ
-start Change p l n = p
-start Append p l n = n
-start Prepend p l n = 0
-start DropFront p l n = 0
-start CutTail p l n = n - l
+unfoldable pub standsAt : Kind → (p l n : ℕ) → ℕ
+standsAt Change p l n = p
+standsAt Append p l n = n
+standsAt Prepend p l n = 0
+standsAt DropFront p l n = 0
+standsAt CutTail p l n = n - l
 
 -- the file's length afterwards (document 01, "The file and its five edits")
 unfoldable pub lengthAfter : Kind → (l n : ℕ) → ℕ
@@ -95,7 +95,7 @@ exponent CutTail p l n = blocks n - blocks (n - l)
 
 -- the count of an accepted edit: q + seek(k) + 1, and 0 for an edit of no bytes (document 01, "The file and its five edits")
 unfoldable pub countOf : Kind → (p l n : ℕ) → ℕ
-countOf kind p l n = cond (eqb l 0) 0 (touched (start kind p l n) l + steps (exponent kind p l n) + 1)
+countOf kind p l n = cond (eqb l 0) 0 (touched (standsAt kind p l n) l + steps (exponent kind p l n) + 1)
 
 -- what an edit does to lengths, whole: the refusal's number or 0, and for an accepted edit of at least one byte how many zero bytes stand
 -- before the given ones in their first block, q, k and the length afterwards; it serves contracts alone
@@ -113,8 +113,8 @@ geometry kind p l r n =
     (cond (eqb l 0) (record { number = 0; lead = 0; q = 0; k = 0; n = n })
     (record {
       number = 0;
-      lead = start kind p l n % 16;
-      q = touched (start kind p l n) l;
+      lead = standsAt kind p l n % 16;
+      q = touched (standsAt kind p l n) l;
       k = exponent kind p l n;
       n = lengthAfter kind l n;
     }))

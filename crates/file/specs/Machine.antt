@@ -8,7 +8,7 @@ use Prim.Native.Nat.{ℕ, _+_, _-_, _*_, max}
 use lib.Dec.{eqb}
 use lib.ListN.{length, take, drop, replicate}
 use Rattle.field.specs.Field.{blocks, width}
-use Rattle.file.specs.Edits.{Edit, change, append, prepend, dropFront, cutTail, kindOf, placeOf, given, start, lengthAfter, touched, countOf}
+use Rattle.file.specs.Edits.{Edit, change, append, prepend, dropFront, cutTail, kindOf, placeOf, given, standsAt, lengthAfter, touched, countOf}
 use Rattle.file.specs.States.{refusalOf}
 use Rattle.file.specs.Slips.{sealNumber, checkNumber}
 
@@ -80,5 +80,5 @@ callCount m (check slip) = 0
 -- q + 2b, b the width of the larger of the block counts before and after (document 01, "The file and its five edits")
 unfoldable pub countLimit : ℕ → Edit → ℕ
 countLimit n e =
-    touched (start (kindOf e) (placeOf e) (length (given e)) n) (length (given e))
+    touched (standsAt (kindOf e) (placeOf e) (length (given e)) n) (length (given e))
     + 2 * width (max (blocks n) (blocks (lengthAfter (kindOf e) (length (given e)) n)))

@@ -13,7 +13,7 @@ use Rattle.file.specs.declared.states.Edited.{Edited}
 use Rattle.file.specs.Causes.{outcomeNumber, outcomeCount}
 use Rattle.file.specs.Tags.{hashKey}
 use Rattle.file.specs.declared.geometry.Kind.{Kind}
-use Rattle.file.specs.Edits.{Edit, kindOf, placeOf, given, replacing, refusalFor, start, lengthAfter, exponent, countOf}
+use Rattle.file.specs.Edits.{Edit, kindOf, placeOf, given, replacing, refusalFor, standsAt, lengthAfter, exponent, countOf}
 use Rattle.file.specs.Table.{placedSum, newSum}
 
 -- what a call on a state answers: the state afterwards, the refusal's number (document 01, "Causes and their numbers") or 0, and the count
@@ -71,7 +71,7 @@ readFile key arm last file =
 -- the sum of a state after an edit of at least one byte: the table over the state's fields (document 01, "The file and its five edits")
 unfoldable pub sumAfter : State → Kind → (p : ℕ) (a b : List ℕ) → Block
 sumAfter st kind p a b =
-    newSum kind (st .h) (st .i) (st .s) (placedSum (st .h) (start kind p (length a) (st .n)) a b) (exponent kind p (length a) (st .n))
+    newSum kind (st .h) (st .i) (st .s) (placedSum (st .h) (standsAt kind p (length a) (st .n)) a b) (exponent kind p (length a) (st .n))
 
 -- an edit of a kind (document 01, "The file and its five edits"), at p, with given bytes a and of a change new bytes b: refused, or
 -- accepted; one of no bytes changes nothing
