@@ -15,8 +15,8 @@ use Rattle.field.specs.Field.{value, Small}
 use Rattle.field.proofs.Powers.{small-companion}
 use Rattle.file.specs.declared.states.State.{State}
 use Rattle.file.specs.Tags.{hashKey}
-use Rattle.file.specs.Edits.{Edit, kindOf, placeOf, given, replacing, lengthAfter, countOf}
-use Rattle.file.specs.States.{accepted, refused, moved, sumAfter, refusalOf, editedBy, edited, started, readFile}
+use Rattle.file.specs.Edits.{Edit, kindOf, given, replacing, geometryAt, countOf}
+use Rattle.file.specs.States.{accepted, refused, moved, sumAfter, editedBy, edited, started, readFile}
 use Rattle.file.specs.Slips.{SealAnswer, slipBytes, stateTag, sealNumber, numbered, sealed, checked}
 use Rattle.file.specs.Machine.{Call, edit, seal, check, Machine}
 use Rattle.file.specs.Runs.{Run, stateAfter, answerOf, reported, begun, further, run, fromStart, fromRead}
@@ -29,7 +29,7 @@ use Rattle.capi.proofs.StateBytes.{Fits, state-back}
 
 -- ---- one call on the bytes of a state
 
--- the tests of an edit: t that it is accepted, c that it is of no bytes
+-- the tests of an edit: t that it is accepted, c that it touches no block
 kept-choice : (st st′ : State) (n k : ℕ) (t c : Bool) → eqb n 0 ≡ t
     → let a = cond t (cond c (accepted st 0) (accepted st′ k)) (refused st n) in
     kept a (stateBytes st) 0 ≡ editResult (a .number) (stateBytes (a .state)) (a .count)
@@ -49,10 +49,10 @@ stamped-choice st st′ n out slip false e = rw e
 -- so an edit and a seal leave the bytes of the state after them, refused or not
 kept-edit : (st : State) (e : Edit)
     → kept (edited st e) (stateBytes st) 0 ≡ editResult (edited st e .number) (stateBytes (edited st e .state)) (edited st e .count)
-unfolding edited editedBy refusalOf
+unfolding edited editedBy
 kept-edit st e =
-    kept-choice st (moved st (sumAfter st (kindOf e) (placeOf e) (given e) (replacing e)) (lengthAfter (kindOf e) (length (given e)) (st .n)))
-    (refusalOf (st .n) e) (countOf (kindOf e) (placeOf e) (length (given e)) (st .n)) _ (eqb (length (given e)) 0) refl
+    let g = geometryAt (st .n) e in
+    kept-choice st (moved st (sumAfter st (kindOf e) g (given e) (replacing e)) (g .n)) (g .number) (countOf g) _ (eqb (g .q) 0) refl
 
 stamped-seal : (st : State) (out : List ℕ)
     → stamped (sealed st out) (stateBytes st)

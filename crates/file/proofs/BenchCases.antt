@@ -13,9 +13,8 @@ use Rattle.field.specs.Field.{bytes}
 use Rattle.field.proofs.Bytes.{length-bytes, bytes-append, bytes-zero, bytes-suc}
 use Rattle.field.proofs.Horner.{blocks-value}
 use Rattle.field.proofs.Cases.{cases}
-use borrow.Author.Tests.{eq-eqb}
 use Rattle.file.specs.Edits.{Edit, change, append, prepend, dropFront, cutTail, kindOf, placeOf, given, replacing}
-use Rattle.file.specs.Edits.{editNumber, refusalFor, standsAt, touched, exponent, countOf}
+use Rattle.file.specs.Edits.{editNumber, refusalFor, standsAt, lengthAfter, touched, exponent, geometry, geometryAt, countOf}
 use Rattle.file.specs.States.{refusalOf}
 use Rattle.file.specs.Slips.{slipValue, slipBytes}
 use Rattle.file.specs.BenchCases.{Counts, BenchCases}
@@ -52,15 +51,13 @@ head-bytes =
     )
 
 -- an edit that gives l bytes and r new ones reports what lengths say
-counted : (e : Edit) (count l r : ℕ) → length (given e) ≡ l → length (replacing e) ≡ r → refusalFor (kindOf e) (placeOf e) l r 40 ≡ 0
-    → countOf (kindOf e) (placeOf e) l 40 ≡ count → Counts e count
-unfolding Counts refusalOf
-counted e count l r el er a c st n =
-    let z : refusalOf (st .n) e ≡ 0 = cc in
-    (edited-number st e ∙ z, edited-count st e ∙ rw (eq-eqb _ _ z) (cc))
+counted : (e : Edit) (count l r : ℕ) → length (given e) ≡ l → length (replacing e) ≡ r
+    → geometry (kindOf e) (placeOf e) l r 40 .number ≡ 0 → countOf (geometry (kindOf e) (placeOf e) l r 40) ≡ count → Counts e count
+unfolding Counts refusalOf geometryAt
+counted e count l r el er a c st n = (edited-number st e ∙ cc, edited-count st e ∙ cc)
 
 pub bench-cases : BenchCases
-unfolding kindOf placeOf given replacing refusalFor editNumber countOf standsAt touched exponent
+unfolding kindOf placeOf given replacing geometry refusalFor editNumber standsAt lengthAfter touched exponent countOf
 bench-cases =
     record {
       one-times = cases .one-times;

@@ -3,25 +3,26 @@
 -- It rests on the laws of edits (`EditLaws`). Assumes nothing.
 use mathlib.Core.Path.{_≡_, refl, sym, ap, ap₂, subst, _∙_}
 use mathlib.Core.Bool.{Bool, true, false, cond, true≢false, false≢true}
-use mathlib.Core.Logic.{_≢_}
+use mathlib.Core.Logic.{_≢_, _⊎_, inl, inr}
 use mathlib.Core.List.{List}
-use Prim.Native.Nat.{ℕ, _+_, _-_, _<_, _≤_, _^_, zero-le}
+use Prim.Native.Nat.{ℕ, _+_, _-_, _<_, _≤_, _^_}
+use native.Mathlib.Nat.{eq-zero-or-pos}
 use native.Mathlib.Omega.{arith}
 use lib.Dec.{eqb, ltb}
 use lib.ListN.{length}
 use borrow.Author.Tests.{eqb-true, eqb-false, eq-eqb}
 use Rattle.field.specs.Field.{limit, value}
 use Rattle.file.specs.declared.states.State.{State}
-use Rattle.file.specs.Edits.{Edit, kindOf, placeOf, given, replacing, lengthAfter, countOf}
+use Rattle.file.specs.Edits.{Edit, kindOf, given, replacing, Geometry, geometryAt, countOf}
 use Rattle.file.specs.States.{accepted, refused, moved, sumAfter, editedBy, edited, refusalOf}
 use Rattle.file.specs.Slips.{SealAnswer, sealNumber, checkNumber, checked, sealed, numbered, slipBytes, stateTag}
 use Rattle.file.specs.Machine.{Call, edit, seal, check, Machine, callNumber, machineNumber, taken, step, callCount, countLimit}
 use Rattle.file.specs.Runs.{stateAfter, answerOf, reported}
-use Rattle.file.proofs.EditLaws.{nothing-kept, count-within}
+use Rattle.file.proofs.EditLaws.{some-touched, refused-untouched, none-untouched, nothing-kept, count-within}
 
 -- ---- a relation of state and machine
 
--- the tests of an edit: b that the editor accepts it, t that the machine does, c that it is of no bytes
+-- the tests of an edit: b that the editor accepts it, t that the machine does, c that it touches no block
 edit-choice : (P : State → Machine → Type 0) (st st′ : State) (m m′ : Machine) (r k : ℕ) (b t c : Bool) → b ≡ t → P st m
     → (t ≡ true → c ≡ true → m ≡ m′) → (t ≡ true → c ≡ false → P st′ m′)
     → P (cond b (cond c (accepted st 0) (accepted st′ k)) (refused st r) .state) (cond t m′ m)
@@ -31,18 +32,28 @@ edit-choice P st st′ m m′ r k true false c e p same go = absurd (true≢fals
 edit-choice P st st′ m m′ r k false true c e p same go = absurd (false≢true e)
 edit-choice P st st′ m m′ r k false false c e p same go = p
 
+-- an accepted edit that touches no block is of no bytes, and one that touches a block is not
+given-none : (n : ℕ) (e : Edit) → refusalOf n e ≡ 0 → geometryAt n e .q ≡ 0 → (length (given e) ≡ 0) ⊎ (0 < length (given e)) → length (given e) ≡ 0
+given-none n e a q (inl z) = z
+given-none n e a q (inr z) = absurd (some-touched n e a (λ y. omega arith) q)
+
+given-some : (n : ℕ) (e : Edit) → refusalOf n e ≡ 0 → geometryAt n e .q ≢ 0 → length (given e) ≢ 0
+given-some n e a q z = q (none-untouched n e a z)
+
 -- it stands after an edit if it stood before and an accepted edit of at least one byte keeps it
 pub edit-case : (P : State → Machine → Type 0) (st : State) (m : Machine) (e : Edit) → st .n ≡ length (m .bytes) → P st m
     → (refusalOf (length (m .bytes)) e ≡ 0 → length (given e) ≢ 0
-    → P (moved st (sumAfter st (kindOf e) (placeOf e) (given e) (replacing e)) (lengthAfter (kindOf e) (length (given e)) (st .n)))
-    (taken m (edit e)))
+    → P (moved st (sumAfter st (kindOf e) (geometryAt (st .n) e) (given e) (replacing e)) (geometryAt (st .n) e .n)) (taken m (edit e)))
     → P (stateAfter st (edit e)) (step m (edit e))
 unfolding stateAfter edited editedBy refusalOf step machineNumber callNumber taken
 edit-case P st m e n p go =
-    edit-choice P st _ m _ _ _ _ _ (eqb (length (given e)) 0) (ap (λ (x : ℕ). eqb (refusalOf x e) 0) n) p
+    let at = ap (λ (x : ℕ). geometryAt x e .q) n in
+    edit-choice P st _ m _ _ _ _ _ (eqb (geometryAt (st .n) e .q) 0) (ap (λ (x : ℕ). eqb (refusalOf x e) 0) n) p
     (λ a z. ap (λ (f : List ℕ). record { bytes = f; last = m .last })
-    (sym (nothing-kept (m .bytes) e (eqb-true _ 0 a) (eqb-true _ 0 z))))
-    (λ a z. go (eqb-true _ 0 a) (eqb-false _ 0 z))
+    (sym
+    (nothing-kept (m .bytes) e (eqb-true _ 0 a)
+    (given-none (length (m .bytes)) e (eqb-true _ 0 a) (sym at ∙ eqb-true _ 0 z) (eq-zero-or-pos (length (given e)))))))
+    (λ a z. go (eqb-true _ 0 a) (given-some (length (m .bytes)) e (eqb-true _ 0 a) (λ y. eqb-false _ 0 z (at ∙ y))))
 
 -- the tests of a seal: b that the editor accepts it, t that the machine does
 seal-choice : (P : State → Machine → Type 0) (st st′ : State) (m m′ : Machine) (r : ℕ) (out slip : List ℕ) (b t : Bool) → b ≡ t → P st m
@@ -87,7 +98,7 @@ seal-number st st′ r out slip false e = refl
 -- is the refusal's
 pub edited-number : (st : State) (e : Edit) → edited st e .number ≡ refusalOf (st .n) e
 unfolding edited editedBy refusalOf
-edited-number st e = edit-number st _ _ _ _ (eqb (length (given e)) 0) refl
+edited-number st e = edit-number st _ _ _ _ (eqb (geometryAt (st .n) e .q) 0) refl
 
 -- and so the machine's
 pub answer-agrees : (st : State) (m : Machine) (c : Call) → st .n ≡ length (m .bytes) → st .last ≡ m .last
@@ -99,33 +110,36 @@ answer-agrees st m (check slip) n l = ap (λ (x : ℕ). checkNumber x slip) n
 
 -- ---- the count that it reports
 
-edit-count : (st st′ : State) (r k : ℕ) (b c : Bool) → (c ≡ true → k ≡ 0)
-    → cond b (cond c (accepted st 0) (accepted st′ k)) (refused st r) .count ≡ cond b k 0
-edit-count st st′ r k true true z = sym (z refl)
-edit-count st st′ r k true false z = refl
-edit-count st st′ r k false c z = refl
+edit-count : (st st′ : State) (r k : ℕ) (b c : Bool) → (b ≡ false → k ≡ 0) → (c ≡ true → k ≡ 0)
+    → cond b (cond c (accepted st 0) (accepted st′ k)) (refused st r) .count ≡ k
+edit-count st st′ r k true true x y = sym (y refl)
+edit-count st st′ r k true false x y = refl
+edit-count st st′ r k false c x y = sym (x refl)
 
-pub edited-count : (st : State) (e : Edit)
-    → edited st e .count ≡ cond (eqb (refusalOf (st .n) e) 0) (countOf (kindOf e) (placeOf e) (length (given e)) (st .n)) 0
-unfolding edited editedBy refusalOf countOf
-edited-count st e = edit-count st _ _ _ (eqb (refusalOf (st .n) e) 0) (eqb (length (given e)) 0) (λ z. rw z)
+-- an edit that touches no block counts nothing
+count-none : (g : Geometry) → g .q ≡ 0 → countOf g ≡ 0
+unfolding countOf
+count-none g e = rw (eq-eqb _ _ e)
 
--- is the machine's
+-- is the geometry's
+pub edited-count : (st : State) (e : Edit) → edited st e .count ≡ countOf (geometryAt (st .n) e)
+unfolding edited editedBy refusalOf
+edited-count st e =
+    let g = geometryAt (st .n) e in
+    edit-count st _ (g .number) _ (eqb (g .number) 0) (eqb (g .q) 0)
+    (λ a. count-none g (refused-untouched (st .n) e (eqb-false _ 0 a))) (λ z. count-none g (eqb-true _ 0 z))
+
+-- and so the machine's
 pub count-agrees : (st : State) (m : Machine) (c : Call) → st .n ≡ length (m .bytes) → reported st c ≡ callCount m c
-unfolding reported callCount machineNumber callNumber
-count-agrees st m (edit e) n =
-    edited-count st e ∙ ap (λ (x : ℕ). cond (eqb (refusalOf x e) 0) (countOf (kindOf e) (placeOf e) (length (given e)) x) 0) n
+unfolding reported callCount
+count-agrees st m (edit e) n = edited-count st e ∙ ap (λ (x : ℕ). countOf (geometryAt x e)) n
 count-agrees st m (seal out) n = refl
 count-agrees st m (check slip) n = refl
 
-within-choice : (b : Bool) (k l : ℕ) → (b ≡ true → k ≤ l) → cond b k 0 ≤ l
-within-choice true k l h = h refl
-within-choice false k l h = zero-le
-
 -- and at most q + 2b
 pub count-short : (m : Machine) (e : Edit) → callCount m (edit e) ≤ countLimit (length (m .bytes)) e
-unfolding callCount machineNumber callNumber
-count-short m e = within-choice _ _ _ (λ a. count-within (length (m .bytes)) e (eqb-true _ 0 a))
+unfolding callCount
+count-short m e = count-within (length (m .bytes)) e
 
 -- ---- an accepted seal
 

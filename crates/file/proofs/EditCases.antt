@@ -7,7 +7,7 @@ use mathlib.Core.List.{List, [], _++_}
 use Prim.Native.Nat.{ℕ, _+_, _%_, _≤_, _<_, _^_, max}
 use native.Mathlib.Omega.{arith}
 use lib.ListN.{length, replicate, length-append, length-replicate}
-use borrow.Author.Tests.{eq-eqb, ne-eqb}
+use borrow.Author.Tests.{ne-eqb}
 use Rattle.field.specs.declared.blocks.Block.{Block}
 use Rattle.field.specs.declared.multiplying.Counted.{Counted}
 use Rattle.field.specs.Field.{_⊕_, _•_, power, steps, blocks, sum, xorBytes, Yᵢ, counted}
@@ -29,7 +29,7 @@ use Rattle.file.specs.Edits.{Geometry, geometry, geometryOf, refusalFor,
 use Rattle.file.specs.Table.{placedSum, newSum}
 use Rattle.file.specs.States.{accepted, refused, moved, sumAfter, editedBy}
 use Rattle.file.proofs.Accepted.{accepted-as}
-use Rattle.file.proofs.ShapeLaws.{reach, touched-blocks, cause-pos, geometry-number, geometry-fits}
+use Rattle.file.proofs.ShapeLaws.{reach, touched-blocks, touched-some, cause-pos, geometry-number, geometry-fits, geometry-nothing}
 
 -- ---- the table's rows as factors
 
@@ -76,13 +76,11 @@ moved-count q k ew et = omega (arith, ap (λ (c : Counted). c .count) et, ap (λ
 
 module _ (st : State) (kind : Kind) (p : ℕ) (a b : List ℕ) {m : Measured}
     (e : geometryOf m ≡ geometry kind p (length a) (length b) (st .n)) where
-  pub edit-refused : {c : Cause} → m ≡ measured.Refused c → refused st (causeNumber c) ≡ editedBy st kind p a b
+  pub edit-refused : {c : Cause} → m ≡ measured.Refused c
+      → refused st (causeNumber c) ≡ editedBy st kind (geometry kind p (length a) (length b) (st .n)) a b
   unfolding editedBy
   edit-refused {c} g =
-      let number : refusalFor kind p (length a) (length b) (st .n) ≡ causeNumber c =
-      sym (geometry-number kind p (length a) (length b) (st .n)) ∙ sym (ap (λ (x : Geometry). x .number) e)
-      ∙ ap (λ (x : Measured). geometryOf x .number) g in
-      simp (number, ne-eqb _ _ (λ (z : causeNumber c ≡ 0). omega (arith, cause-pos c)))
+      rw (sym e ∙ ap geometryOf g) (simp (ne-eqb _ _ (λ (z : causeNumber c ≡ 0). omega (arith, cause-pos c))))
 
   module _ {x : Shape} (g : m ≡ measured.Fits x) where
     pub fits-number : refusalFor kind p (length a) (length b) (st .n) ≡ 0
@@ -90,9 +88,9 @@ module _ (st : State) (kind : Kind) (p : ℕ) (a b : List ℕ) {m : Measured}
         sym (geometry-number kind p (length a) (length b) (st .n)) ∙ sym (ap (λ (y : Geometry). y .number) e)
         ∙ ap (λ (y : Measured). geometryOf y .number) g
 
-    pub edit-nothing : length a ≡ 0 → accepted st 0 ≡ editedBy st kind p a b
+    pub edit-nothing : length a ≡ 0 → accepted st 0 ≡ editedBy st kind (geometry kind p (length a) (length b) (st .n)) a b
     unfolding editedBy
-    edit-nothing z = simp (eq-eqb _ _ fits-number, eq-eqb _ _ z)
+    edit-nothing z = rw (sym (geometry-nothing kind p (length a) (length b) (st .n) fits-number z))
 
     module _ (z : 0 < length a) where
       fits-shape :
@@ -125,12 +123,8 @@ module _ (st : State) (kind : Kind) (p : ℕ) (a b : List ℕ) {m : Measured}
       pub edit-done : {v : Moved} {r : State}
           → v .s ≡ newSum kind (st .h) (st .i) (st .s) (sum (st .h) (replicate (x .lead) 0 ++ xorBytes a b)) (x .k)
           → v .n ≡ x .n → v .count ≡ x .q + steps (x .k) + 1 → r ≡ moved st (v .s) (v .n)
-          → accepted r (v .count) ≡ editedBy st kind p a b
+          → accepted r (v .count) ≡ editedBy st kind (geometry kind p (length a) (length b) (st .n)) a b
       unfolding editedBy sumAfter placedSum countOf
       edit-done es en ec er =
-          let lead = ap (λ (y : Geometry). y .lead) fits-shape in
-          let q = ap (λ (y : Geometry). y .q) fits-shape in
-          let k = ap (λ (y : Geometry). y .k) fits-shape in
-          let n = ap (λ (y : Geometry). y .n) fits-shape in
-          let l = ne-eqb (length a) 0 (λ (y : length a ≡ 0). omega arith) in
-          simp (eq-eqb _ _ fits-number, l) (rw (er, es, en, ec, lead, q, k, n))
+          let some = ne-eqb (x .q) 0 (λ (y : x .q ≡ 0). touched-some _ _ z (sym (ap (λ (w : Geometry). w .q) fits-shape) ∙ y)) in
+          rw (sym e ∙ ap geometryOf g) (simp some (rw (er, es, en, ec)))

@@ -1,6 +1,6 @@
 -- What an accepted edit does to the machine's bytes, their count and their sum, and the bound on its count: the laws of the five edits by which
 -- the editor's run and the plain machine's are compared.
--- Rests on Accepted, Placed and EditSums, and on field's bound on seek's steps (Steps).
+-- Rests on Accepted, Placed, ShapeLaws and EditSums, and on field's bound on seek's steps (Steps).
 -- Assumes nothing.
 use mathlib.Core.Path.{_≡_, sym, ap, ap₂, _∙_}
 use mathlib.Core.Logic.{_≢_, _⊎_, inl, inr}
@@ -10,26 +10,56 @@ use native.Mathlib.Nat.{eq-zero-or-pos}
 use native.Mathlib.Omega.{arith}
 use lib.ListN.{length, take, drop, replicate, length-append, length-take, length-drop, take-append-drop, drop-of-length-le}
 use lib.Seq.{drop-drop, take-all, length-take-le}
-use borrow.Author.Tests.{eq-eqb, ne-eqb}
+use borrow.Author.Tests.{ne-eqb}
 use Rattle.field.specs.declared.blocks.Block.{Block}
-use Rattle.field.specs.Field.{Small, _⊕_, _•_, power, sum, companion, limit, blocks, width}
+use Rattle.field.specs.Field.{Small, _⊕_, _•_, power, sum, companion, limit, blocks, steps, width}
 use Rattle.field.proofs.XorBytes.{xorBytes-zeros}
 use Rattle.field.proofs.Steps.{steps-bound}
 use Rattle.file.specs.declared.geometry.Kind.{Kind}
 use Rattle.file.specs.declared.geometry.Kind.the-variants.{Change, DropFront, CutTail}
 use Rattle.file.specs.Edits.{Edit, change, append, prepend, dropFront, cutTail, kindOf, placeOf, given, replacing}
-use Rattle.file.specs.Edits.{standsAt, lengthAfter, touched, exponent, countOf}
+use Rattle.file.specs.Edits.{refusalFor, standsAt, lengthAfter, touched, exponent, Geometry, geometryAt, countOf}
 use Rattle.file.specs.Table.{placedSum, newSum}
 use Rattle.file.specs.States.{refusalOf}
 use Rattle.file.specs.Machine.{bytesAfter, Named, countLimit}
 use Rattle.file.proofs.Accepted.{Accepted, accepted}
 use Rattle.file.proofs.Placed.{exponent-change, exponent-drop, exponent-le, some-block}
+use Rattle.file.proofs.ShapeLaws.{touched-some, geometry-number, geometry-fits, geometry-nothing, geometry-none}
 use Rattle.file.proofs.EditSums.{change-sum, append-sum, prepend-sum, drop-sum, cut-sum}
+
+-- ---- what an edit with its bytes does to lengths
+
+refusal-number : (n : ℕ) (e : Edit) → refusalOf n e ≡ refusalFor (kindOf e) (placeOf e) (length (given e)) (length (replacing e)) n
+unfolding refusalOf geometryAt
+refusal-number n e = geometry-number _ _ _ _ n
+
+-- of an accepted edit of at least one byte
+pub geometry-some : (n : ℕ) (e : Edit) → refusalOf n e ≡ 0 → length (given e) ≢ 0
+    → geometryAt n e ≡ record {
+      number = 0;
+      lead = standsAt (kindOf e) (placeOf e) (length (given e)) n % 16;
+      q = touched (standsAt (kindOf e) (placeOf e) (length (given e)) n) (length (given e));
+      k = exponent (kindOf e) (placeOf e) (length (given e)) n;
+      n = lengthAfter (kindOf e) (length (given e)) n;
+    }
+unfolding geometryAt
+geometry-some n e a z = geometry-fits _ _ _ _ n (sym (refusal-number n e) ∙ a) (omega arith)
+
+-- which touches a block, as no other edit does
+pub some-touched : (n : ℕ) (e : Edit) → refusalOf n e ≡ 0 → length (given e) ≢ 0 → geometryAt n e .q ≢ 0
+some-touched n e a z q = touched-some _ _ (omega arith) (sym (ap (λ (g : Geometry). g .q) (geometry-some n e a z)) ∙ q)
+
+pub refused-untouched : (n : ℕ) (e : Edit) → refusalOf n e ≢ 0 → geometryAt n e .q ≡ 0
+unfolding geometryAt
+refused-untouched n e a = geometry-none _ _ _ _ n (λ z. a (refusal-number n e ∙ z))
+
+pub none-untouched : (n : ℕ) (e : Edit) → refusalOf n e ≡ 0 → length (given e) ≡ 0 → geometryAt n e .q ≡ 0
+unfolding geometryAt
+none-untouched n e a z = sym (ap (λ (g : Geometry). g .q) (geometry-nothing _ _ _ _ n (sym (refusal-number n e) ∙ a) z))
 
 -- what holds of an accepted edit
 pub allowed : (n : ℕ) (e : Edit) → refusalOf n e ≡ 0 → Accepted (kindOf e) (placeOf e) (length (given e)) (length (replacing e)) n
-unfolding refusalOf
-allowed n e a = accepted (kindOf e) (placeOf e) (length (given e)) (length (replacing e)) n a
+allowed n e a = accepted (kindOf e) (placeOf e) (length (given e)) (length (replacing e)) n (sym (refusal-number n e) ∙ a)
 
 -- ---- the bytes and their count
 
@@ -77,9 +107,9 @@ nothing-kept f (cutTail s) a n = rw n (take-all (length f - 0) f (omega arith))
 -- ---- the sum
 
 -- the given bytes stand alone where there are no new ones
-placed-alone : (h : Block) (at : ℕ) (s : List ℕ) → placedSum h at s [] ≡ sum h (replicate (at % 16) 0 ++ s)
+placed-alone : (h : Block) (lead : ℕ) (s : List ℕ) → placedSum h lead s [] ≡ sum h (replicate lead 0 ++ s)
 unfolding placedSum
-placed-alone h at s = ap (λ (t : List ℕ). sum h (replicate (at % 16) 0 ++ t)) (xorBytes-zeros s 0 zero-le)
+placed-alone h lead s = ap (λ (t : List ℕ). sum h (replicate lead 0 ++ t)) (xorBytes-zeros s 0 zero-le)
 
 -- the parts of a file that a change tells apart
 change-parts : (f old : List ℕ) (p : ℕ) → take (length old) (drop p f) ≡ old → take p f ++ old ++ drop (p + length old) f ≡ f
@@ -92,7 +122,7 @@ change-parts f old p t =
 
 change-kept : (h : Block) (f old new : List ℕ) (p : ℕ) → 1 ≤ length old → length old ≡ length new → p + length old ≤ length f
     → take (length old) (drop p f) ≡ old
-    → sum h f ⊕ placedSum h p old new • power h (exponent Change p (length old) (length f))
+    → sum h f ⊕ placedSum h (p % 16) old new • power h (exponent Change p (length old) (length f))
     ≡ sum h (take p f ++ new ++ drop (p + length new) f)
 unfolding placedSum
 change-kept h f old new p l e b t =
@@ -109,7 +139,7 @@ drop-kept h f s l w b t =
     (rw (parts, length-drop (length s) f) at (drop-sum h s (drop (length s) f) w))
 
 cut-kept : (h : Block) (f s : List ℕ) → Small h → length s ≤ length f → drop (length f - length s) f ≡ s
-    → (sum h f ⊕ placedSum h (length f - length s) s []) • power (companion h) (exponent CutTail 0 (length s) (length f))
+    → (sum h f ⊕ placedSum h ((length f - length s) % 16) s []) • power (companion h) (exponent CutTail 0 (length s) (length f))
     ≡ sum h (take (length f - length s) f)
 unfolding exponent
 cut-kept h f s small b t =
@@ -117,20 +147,20 @@ cut-kept h f s small b t =
     let parts : take n f ++ s ≡ f = ap (_++_ (take n f)) (sym t) ∙ take-append-drop n f in
     let front : length (take n f) ≡ n = length-take-le n f (omega arith) in
     let all : n + length s ≡ length f = omega arith in
-    rw (placed-alone h n s) (rw (parts, front, all) at (cut-sum h (take n f) s small))
+    rw (placed-alone h (n % 16) s) (rw (parts, front, all) at (cut-sum h (take n f) s small))
 
 -- document 01's table gives the sum of the bytes afterwards, where the bytes named are there
 pub sum-kept :
     (h : Block) (f : List ℕ) (e : Edit) → Small h → refusalOf (length f) e ≡ 0 → length (given e) ≢ 0 → Named f e
     → newSum (kindOf e) h (companion h) (sum h f)
-    (placedSum h (standsAt (kindOf e) (placeOf e) (length (given e)) (length f)) (given e) (replacing e))
+    (placedSum h (standsAt (kindOf e) (placeOf e) (length (given e)) (length f) % 16) (given e) (replacing e))
     (exponent (kindOf e) (placeOf e) (length (given e)) (length f))
     ≡ sum h (bytesAfter f e)
 unfolding newSum standsAt exponent bytesAfter Named kindOf placeOf given replacing
 sum-kept h f (change p old new) small a n t =
     let k = allowed (length f) (change p old new) a in
     change-kept h f old new p (omega arith) (k .fits .0) (k .fits .1) t
-sum-kept h f (append s) small a n t = rw (placed-alone h (length f) s) (append-sum h f s)
+sum-kept h f (append s) small a n t = rw (placed-alone h (length f % 16) s) (append-sum h f s)
 sum-kept h f (prepend s) small a n t = rw (placed-alone h 0 s) (prepend-sum h s f (allowed (length f) (prepend s) a .fits .0))
 sum-kept h f (dropFront s) small a n t =
     let k = allowed (length f) (dropFront s) a in
@@ -139,16 +169,19 @@ sum-kept h f (cutTail s) small a n t = cut-kept h f s small (allowed (length f) 
 
 -- ---- the count
 
--- the count of an accepted edit, over its place and lengths: nothing where no byte is given, else q + seek(k) + 1 with k at most the larger
--- block count
-counted-within : (kind : Kind) {p l r n : ℕ} → Accepted kind p l r n → (l ≡ 0) ⊎ (0 < l)
-    → countOf kind p l n ≤ touched (standsAt kind p l n) l + 2 * width (max (blocks n) (blocks (lengthAfter kind l n)))
-unfolding countOf
-counted-within kind {p} {l} {r} {n} a (inl none) = rw (eq-eqb l 0 none) zero-le
-counted-within kind {p} {l} {r} {n} a (inr some) =
-    rw (ne-eqb l 0 (omega arith)) (omega (arith, steps-bound _ _ (exponent-le kind p l n) (some-block kind a some)))
+-- q + seek(k) + 1 of an accepted edit of at least one byte is at most q + 2b, since k is at most the larger block count
+some-within : (kind : Kind) {p l r n : ℕ} → Accepted kind p l r n → 0 < l
+    → (q : ℕ) → q + steps (exponent kind p l n) + 1 ≤ q + 2 * width (max (blocks n) (blocks (lengthAfter kind l n)))
+some-within kind {p} {l} {r} {n} a some q = omega (arith, steps-bound _ _ (exponent-le kind p l n) (some-block kind a some))
 
 -- the count is at most q + 2b
-pub count-within : (n : ℕ) (e : Edit) → refusalOf n e ≡ 0 → countOf (kindOf e) (placeOf e) (length (given e)) n ≤ countLimit n e
-unfolding countLimit
-count-within n e a = counted-within (kindOf e) (allowed n e a) (eq-zero-or-pos (length (given e)))
+within-by : (n : ℕ) (e : Edit) → (refusalOf n e ≡ 0) ⊎ (0 < refusalOf n e) → (length (given e) ≡ 0) ⊎ (0 < length (given e))
+    → countOf (geometryAt n e) ≤ countLimit n e
+unfolding countOf countLimit
+within-by n e (inr a) l = rw (refused-untouched n e (λ z. omega arith)) zero-le
+within-by n e (inl a) (inl z) = rw (none-untouched n e a z) zero-le
+within-by n e (inl a) (inr z) =
+    rw (ne-eqb _ 0 (some-touched n e a (λ y. omega arith)), geometry-some n e a (λ y. omega arith)) (some-within (kindOf e) (allowed n e a) z _)
+
+pub count-within : (n : ℕ) (e : Edit) → countOf (geometryAt n e) ≤ countLimit n e
+count-within n e = within-by n e (eq-zero-or-pos (refusalOf n e)) (eq-zero-or-pos (length (given e)))

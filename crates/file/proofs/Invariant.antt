@@ -21,13 +21,13 @@ use Rattle.file.specs.declared.geometry.Kind.{Kind}
 use Rattle.file.specs.declared.geometry.Kind.the-variants.{Change, Append, Prepend, DropFront, CutTail}
 use Rattle.file.specs.declared.states.State.{State}
 use Rattle.file.specs.Tags.{hashKey}
-use Rattle.file.specs.Edits.{Edit, kindOf, placeOf, given, replacing, lengthAfter}
+use Rattle.file.specs.Edits.{Edit, kindOf, given, replacing, Geometry, geometryAt}
 use Rattle.file.specs.Table.{newSum}
 use Rattle.file.specs.States.{accepted, refused, zeroState, stateOf, moved, started, readFile, sumAfter, refusalOf}
 use Rattle.file.specs.Slips.{numbered}
 use Rattle.file.specs.Machine.{Call, edit, seal, check, Machine, blank, callNumber, machineNumber, bytesAfter, taken, step, Named, True}
 use Rattle.file.specs.Runs.{stateAfter}
-use Rattle.file.proofs.EditLaws.{bytes-count, limit-kept, sum-kept}
+use Rattle.file.proofs.EditLaws.{geometry-some, bytes-count, limit-kept, sum-kept}
 use Rattle.file.proofs.Calls.{edit-case, seal-case, check-case, seal-room}
 
 -- key, H, I and arm are as start made them, S is a block of two words, length and last used number are the machine's, and neither passes its
@@ -132,23 +132,24 @@ small-table Prepend h i s w k = small-⊕ _ _
 small-table DropFront h i s w k = small-⊕ _ _
 small-table CutTail h i s w k = small-• _ _
 
-small-after : (st : State) (kind : Kind) (p : ℕ) (a b : List ℕ) → Small (sumAfter st kind p a b)
+small-after : (st : State) (kind : Kind) (g : Geometry) (a b : List ℕ) → Small (sumAfter st kind g a b)
 unfolding sumAfter
-small-after st kind p a b = small-table kind _ _ _ _ _
+small-after st kind g a b = small-table kind _ _ _ _ _
 
 module _ (key : List ℕ) (arm : ℕ) (st : State) (m : Machine) (h : Holds key arm st m) where
   -- by an accepted edit of at least one byte, whatever the new sum
-  holds-moved : (s : Block) → Small s → (e : Edit) → refusalOf (length (m .bytes)) e ≡ 0
-      → Holds key arm (moved st s (lengthAfter (kindOf e) (length (given e)) (st .n))) (taken m (edit e))
+  holds-moved : (s : Block) → Small s → (e : Edit) → refusalOf (length (m .bytes)) e ≡ 0 → length (given e) ≢ 0
+      → Holds key arm (moved st s (geometryAt (st .n) e .n)) (taken m (edit e))
   unfolding moved taken
-  holds-moved s w e a =
+  holds-moved s w e a z =
+      let after = ap (λ (g : Geometry). g .n) (geometry-some (length (m .bytes)) e a z) in
       record {
         same-key = h .same-key;
         same-h = h .same-h;
         same-i = h .same-i;
         small-s = w;
         same-arm = h .same-arm;
-        same-n = ap (lengthAfter (kindOf e) (length (given e))) (h .same-n) ∙ sym (bytes-count (m .bytes) e a);
+        same-n = ap (λ (x : ℕ). geometryAt x e .n) (h .same-n) ∙ after ∙ sym (bytes-count (m .bytes) e a);
         same-last = h .same-last;
         short = rw (bytes-count (m .bytes) e a) (limit-kept (length (m .bytes)) e a);
         room = h .room;
@@ -172,15 +173,19 @@ module _ (key : List ℕ) (arm : ℕ) (st : State) (m : Machine) (h : Holds key 
 
   -- by any call
   pub holds-kept : (c : Call) → Holds key arm (stateAfter st c) (step m c)
-  holds-kept (edit e) = edit-case (Holds key arm) st m e (h .same-n) h (λ a z. holds-moved _ (small-after st _ _ _ _) e a)
+  holds-kept (edit e) = edit-case (Holds key arm) st m e (h .same-n) h (λ a z. holds-moved _ (small-after st _ _ _ _) e a z)
   holds-kept (seal out) = seal-case (Holds key arm) st m out (h .same-n) (h .same-last) h (holds-numbered out)
   holds-kept (check slip) = unfold stateAfter in subst (Holds key arm st) (sym (check-case m slip)) h
 
   -- document 01's table over the state's fields is the table over the machine's bytes
   summed-moved : (e : Edit) → refusalOf (length (m .bytes)) e ≡ 0 → length (given e) ≢ 0 → Named (m .bytes) e → Summed key st m
-      → sumAfter st (kindOf e) (placeOf e) (given e) (replacing e) ≡ sum (hashKey key) (bytesAfter (m .bytes) e)
+      → sumAfter st (kindOf e) (geometryAt (st .n) e) (given e) (replacing e) ≡ sum (hashKey key) (bytesAfter (m .bytes) e)
   unfolding sumAfter
-  summed-moved e a z t s = cc (sum-kept (hashKey key) (m .bytes) e (small-hash key) a z t)
+  summed-moved e a z t s =
+      let g = ap (λ (x : ℕ). geometryAt x e) (h .same-n) ∙ geometry-some (length (m .bytes)) e a z in
+      let lead = ap (λ (x : Geometry). x .lead) g in
+      let k = ap (λ (x : Geometry). x .k) g in
+      cc (sum-kept (hashKey key) (m .bytes) e (small-hash key) a z t)
 
   -- so the sum is kept by any true call
   pub summed-kept : (c : Call) → True m c → Summed key st m → Summed key (stateAfter st c) (step m c)

@@ -3,6 +3,7 @@
 -- Assumes nothing.
 use mathlib.Core.Path.{_≡_, refl, sym, ap, _∙_}
 use mathlib.Core.Bool.{Bool, true, false, cond}
+use mathlib.Core.Logic.{_≢_}
 use Prim.Native.Nat.{ℕ, _+_, _-_, _/_, _%_, _≤_, _<_}
 use native.Mathlib.Nat.{zero-add}
 use native.Mathlib.Omega.{arith}
@@ -95,6 +96,10 @@ pub touched-blocks : (at l : ℕ) → 0 < l → touched at l ≡ blocks (at % 16
 unfolding touched
 touched-blocks at l h = omega (arith, blocks-value (at % 16 + l))
 
+pub touched-some : (at l : ℕ) → 0 < l → touched at l ≢ 0
+unfolding touched
+touched-some at l h e = omega arith
+
 -- ---- geometry
 
 -- no cause has the number 0
@@ -143,6 +148,11 @@ module _ (kind : Kind) (p l r n : ℕ) where
       }
   unfolding geometry
   geometry-fits e h = simp (eq-eqb _ _ e, ne-eqb _ _ (λ (z : l ≡ 0). omega arith))
+
+  -- a refused one touches no block
+  pub geometry-none : refusalFor kind p l r n ≢ 0 → geometry kind p l r n .q ≡ 0
+  unfolding geometry
+  geometry-none e = simp (ne-eqb _ _ e)
 
 -- the answer that measuring an edit gives, from that of its refusals
 module _ (kind : Kind) (p l r n : ℕ) {a : Answer} (e : answerNumber a ≡ refusalFor kind p l r n) where

@@ -5,6 +5,7 @@ use mathlib.Core.Bool.{cond}
 use mathlib.Core.List.{List, []}
 use Prim.Native.Nat.{ℕ, _+_, _-_, _/_, _%_}
 use lib.Dec.{eqb, ltb}
+use lib.ListN.{length}
 use Rattle.file.specs.declared.geometry.Kind.{Kind}
 use Rattle.file.specs.declared.geometry.Kind.the-variants.{Change, Append, Prepend, DropFront, CutTail}
 use Rattle.file.specs.declared.geometry.Measured.{Measured}
@@ -93,12 +94,8 @@ exponent Prepend p l n = blocks n
 exponent DropFront p l n = blocks n - touched 0 l
 exponent CutTail p l n = blocks n - blocks (n - l)
 
--- the count of an accepted edit: q + seek(k) + 1, and 0 for an edit of no bytes (document 01, "The file and its five edits")
-unfoldable pub countOf : Kind → (p l n : ℕ) → ℕ
-countOf kind p l n = cond (eqb l 0) 0 (touched (standsAt kind p l n) l + steps (exponent kind p l n) + 1)
-
--- what an edit does to lengths, whole: the refusal's number or 0, and for an accepted edit of at least one byte how many zero bytes stand
--- before the given ones in their first block, q, k and the length afterwards; it serves contracts alone
+-- what an edit does to lengths (document 01, "The file and its five edits"): the refusal's number or 0, and for an accepted edit of at
+-- least one byte how many zero bytes stand before the given ones in their first block, q, k and the length afterwards
 pub record Geometry : Type 0 where
   pub number : ℕ
   pub lead : ℕ
@@ -106,7 +103,8 @@ pub record Geometry : Type 0 where
   pub k : ℕ
   pub n : ℕ
 
--- what an edit of l bytes at p does so to a file of n bytes, r the new bytes of a change; it serves contracts alone
+-- what an edit of l bytes at p does so to a file of n bytes, r the new bytes of a change (document 01, "The file and its five edits");
+-- one of no bytes touches no block
 unfoldable pub geometry : Kind → (p l r n : ℕ) → Geometry
 geometry kind p l r n =
     cond (eqb (refusalFor kind p l r n) 0)
@@ -119,6 +117,14 @@ geometry kind p l r n =
       n = lengthAfter kind l n;
     }))
     (record { number = refusalFor kind p l r n; lead = 0; q = 0; k = 0; n = 0 })
+
+-- the same of an edit with its bytes (document 01, "The file and its five edits")
+unfoldable pub geometryAt : ℕ → Edit → Geometry
+geometryAt n e = geometry (kindOf e) (placeOf e) (length (given e)) (length (replacing e)) n
+
+-- the count: q + seek(k) + 1, and 0 where no block is touched (document 01, "The file and its five edits")
+unfoldable pub countOf : Geometry → ℕ
+countOf g = cond (eqb (g .q) 0) 0 (g .q + steps (g .k) + 1)
 
 -- the crate's answer read so; it serves contracts alone
 abbrev pub geometryOf : Measured → Geometry

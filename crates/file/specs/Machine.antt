@@ -8,7 +8,7 @@ use Prim.Native.Nat.{ℕ, _+_, _-_, _*_, max}
 use lib.Dec.{eqb}
 use lib.ListN.{length, take, drop, replicate}
 use Rattle.field.specs.Field.{blocks, width}
-use Rattle.file.specs.Edits.{Edit, change, append, prepend, dropFront, cutTail, kindOf, placeOf, given, standsAt, lengthAfter, touched, countOf}
+use Rattle.file.specs.Edits.{Edit, change, append, prepend, dropFront, cutTail, geometryAt, countOf}
 use Rattle.file.specs.States.{refusalOf}
 use Rattle.file.specs.Slips.{sealNumber, checkNumber}
 
@@ -73,12 +73,10 @@ True m (check slip) = Unit {0}
 -- what the machine counts for a call (document 01, "The file and its five edits"): q + seek(k) + 1 for an accepted edit of at least one
 -- byte, else 0
 unfoldable pub callCount : Machine → Call → ℕ
-callCount m (edit e) = cond (eqb (machineNumber m (edit e)) 0) (countOf (kindOf e) (placeOf e) (length (given e)) (length (m .bytes))) 0
+callCount m (edit e) = countOf (geometryAt (length (m .bytes)) e)
 callCount m (seal out) = 0
 callCount m (check slip) = 0
 
 -- q + 2b, b the width of the larger of the block counts before and after (document 01, "The file and its five edits")
 unfoldable pub countLimit : ℕ → Edit → ℕ
-countLimit n e =
-    touched (standsAt (kindOf e) (placeOf e) (length (given e)) n) (length (given e))
-    + 2 * width (max (blocks n) (blocks (lengthAfter (kindOf e) (length (given e)) n)))
+countLimit n e = geometryAt n e .q + 2 * width (max (blocks n) (blocks (geometryAt n e .n)))

@@ -13,7 +13,7 @@ use Rattle.file.specs.declared.states.Edited.{Edited}
 use Rattle.file.specs.Causes.{outcomeNumber, outcomeCount}
 use Rattle.file.specs.Tags.{hashKey}
 use Rattle.file.specs.declared.geometry.Kind.{Kind}
-use Rattle.file.specs.Edits.{Edit, kindOf, placeOf, given, replacing, refusalFor, standsAt, lengthAfter, exponent, countOf}
+use Rattle.file.specs.Edits.{Edit, kindOf, given, replacing, Geometry, geometryAt, countOf}
 use Rattle.file.specs.Table.{placedSum, newSum}
 
 -- what a call on a state answers: the state afterwards, the refusal's number (document 01, "Causes and their numbers") or 0, and the count
@@ -69,23 +69,20 @@ readFile key arm last file =
     (refused zeroState 1)
 
 -- the sum of a state after an edit of at least one byte: the table over the state's fields (document 01, "The file and its five edits")
-unfoldable pub sumAfter : State → Kind → (p : ℕ) (a b : List ℕ) → Block
-sumAfter st kind p a b =
-    newSum kind (st .h) (st .i) (st .s) (placedSum (st .h) (standsAt kind p (length a) (st .n)) a b) (exponent kind p (length a) (st .n))
+unfoldable pub sumAfter : State → Kind → Geometry → (a b : List ℕ) → Block
+sumAfter st kind g a b = newSum kind (st .h) (st .i) (st .s) (placedSum (st .h) (g .lead) a b) (g .k)
 
--- an edit of a kind (document 01, "The file and its five edits"), at p, with given bytes a and of a change new bytes b: refused, or
--- accepted; one of no bytes changes nothing
-unfoldable pub editedBy : State → Kind → (p : ℕ) (a b : List ℕ) → StateAnswer
-editedBy st kind p a b =
-    cond (eqb (refusalFor kind p (length a) (length b) (st .n)) 0)
-    (cond (eqb (length a) 0) (accepted st 0)
-    (accepted (moved st (sumAfter st kind p a b) (lengthAfter kind (length a) (st .n))) (countOf kind p (length a) (st .n))))
-    (refused st (refusalFor kind p (length a) (length b) (st .n)))
+-- an edit of a kind (document 01, "The file and its five edits"), with given bytes a and of a change new bytes b, by what it does to lengths:
+-- refused, or accepted; one of no bytes changes nothing
+unfoldable pub editedBy : State → Kind → Geometry → (a b : List ℕ) → StateAnswer
+editedBy st kind g a b =
+    cond (eqb (g .number) 0) (cond (eqb (g .q) 0) (accepted st 0) (accepted (moved st (sumAfter st kind g a b) (g .n)) (countOf g)))
+    (refused st (g .number))
 
 -- the refusal of an edit at a length, or 0 (document 01, "Causes and their numbers")
 unfoldable pub refusalOf : ℕ → Edit → ℕ
-refusalOf n e = refusalFor (kindOf e) (placeOf e) (length (given e)) (length (replacing e)) n
+refusalOf n e = geometryAt n e .number
 
 -- an edit, for all five kinds (document 01, "The file and its five edits")
 unfoldable pub edited : State → Edit → StateAnswer
-edited st e = editedBy st (kindOf e) (placeOf e) (given e) (replacing e)
+edited st e = editedBy st (kindOf e) (geometryAt (st .n) e) (given e) (replacing e)

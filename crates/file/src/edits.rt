@@ -16,6 +16,7 @@ ghost use Prim.Native.Nat.{ℕ, _+_, _≤_, _^_};
 ghost use lib.ListN.{length, replicate};
 ghost use Rattle.field.specs.Field.{_⊕_, _•_, power, steps, blocks, sum, xorBytes};
 ghost use Rattle.file.specs.Edits;
+ghost use Rattle.file.specs.Edits.{geometry};
 ghost use Rattle.file.specs.Table.{newSum};
 ghost use Rattle.file.specs.States.{stateAnswer, moved, editedBy, edited};
 
@@ -77,7 +78,8 @@ impl State {
 // An edit of a kind, at p, with given bytes a and of a change new bytes b; no other kind has b.
 fn edit(st: State, kind: Kind, p: u64, a: &[u8], b: &[u8]) -> Edited
     requires { ⌜ (kind ≡ Kind.Change) ⊎ (now b ≡ []) ⌝ }
-    ensures { λ x. ⌜ stateAnswer x ≡ editedBy st kind p (now (a .entry)) (now (b .entry)) ⌝ }
+    ensures { λ x. ⌜ stateAnswer x ≡ editedBy st kind (geometry kind p (length (now (a .entry))) (length (now (b .entry))) (st .n))
+        (now (a .entry)) (now (b .entry)) ⌝ }
 {
     let l = a.len() as u64;
     let measured = measure(kind, p, l, b.len() as u64, st.n);

@@ -18,7 +18,9 @@ enum-known-measured-2 c = search needs
 returns : tie.Need-returns
 returns c =
     let measured = c .before .before in
-    edit-nothing _ _ _ _ _ (measured .before .before .measure .ensures) (measured .measured2 .given .1) (c .if1 .taken)
+    let start = measured .before .before .before .before .before in
+    edit-nothing _ _ _ (start .args .a .now) (start .args .b .now) (measured .before .before .measure .ensures) (measured .measured2 .given .1)
+    (c .if1 .taken)
 
 moved-by-requires : tie.Need-moved-by-requires
 moved-by-requires c κs =
@@ -31,7 +33,10 @@ put-requires : tie.Need-put-requires
 put-requires c κs = search needs
 
 returns-2 : tie.Need-returns-2
-returns-2 c = edit-refused _ _ _ _ _ (c .before .before .before .measure .ensures) (c .before .measured .given .1)
+returns-2 c =
+    let measured = c .before .before .before in
+    let start = measured .before .before .before in
+    edit-refused _ _ _ (start .args .a .now) (start .args .b .now) (measured .measure .ensures) (c .before .measured .given .1)
 
 returns-3 : tie.Need-returns-3
 returns-3 c =

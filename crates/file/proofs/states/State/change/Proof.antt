@@ -2,7 +2,7 @@
 use mathlib.Core.Logic.{inl}
 use mathlib.Core.Path.{refl}
 use Rattle.file.specs.States.{edited}
-use Rattle.file.specs.Edits.{kindOf, placeOf, given, replacing}
+use Rattle.file.specs.Edits.{kindOf, placeOf, given, replacing, geometryAt}
 use Rattle.file.proofs.states.State.change.Statement.{statement}
 use Rattle.file.proofs.states.State.change.Tie as tie
 
@@ -10,7 +10,7 @@ edit-requires : tie.Need-edit-requires
 edit-requires c κs = inl refl
 
 returns : tie.Need-returns
-unfolding edited kindOf placeOf given replacing
+unfolding edited geometryAt kindOf placeOf given replacing
 returns c = c .edit .ensures
 
 pub change-spec : {M : Type 1} → statement M

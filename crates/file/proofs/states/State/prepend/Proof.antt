@@ -4,7 +4,7 @@ use mathlib.Core.Logic.{inr}
 use mathlib.Core.Path.{refl}
 use borrow.Author.Needs.{needs}
 use Rattle.file.specs.States.{edited}
-use Rattle.file.specs.Edits.{kindOf, placeOf, given, replacing}
+use Rattle.file.specs.Edits.{kindOf, placeOf, given, replacing, geometryAt}
 use Rattle.file.proofs.states.State.prepend.Statement.{statement}
 use Rattle.file.proofs.states.State.prepend.Tie as tie
 
@@ -15,7 +15,7 @@ edit-requires : tie.Need-edit-requires
 edit-requires c κs = inr refl
 
 returns : tie.Need-returns
-unfolding edited kindOf placeOf given replacing
+unfolding edited geometryAt kindOf placeOf given replacing
 returns c = c .edit .ensures
 
 pub prepend-spec : {M : Type 1} → statement M
