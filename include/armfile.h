@@ -1,12 +1,14 @@
 /*
  * armfile: the seal of a robot arm's motion file.
  *
- * A controller keeps no motion file, only a state of 84 bytes: key, hash key,
- * running sum (GHASH), length, arm number, last used seal number. Five edits
- * move that state without reading the file. A seal writes a slip of 36 bytes
- * whose tag is AES-128 GMAC of the whole file; a check says whether a slip is
- * genuine. FIPS 197 decides for AES, NIST SP 800-38D for the field, GHASH and
- * GMAC.
+ * A controller keeps no motion file, only a state of 84 bytes: key, hash key H
+ * and its companion I, running sum (GHASH without its length block), length,
+ * arm number, last used seal number. Five edits move that state without
+ * reading the file. A seal writes a slip of 36 bytes whose tag is AES-128 GMAC
+ * of the whole file; a check says whether a slip is genuine. FIPS 197 decides
+ * for AES, NIST SP 800-38D for the field, GHASH and GMAC.
+ *
+ * The library is for x86-64 and needs no other library.
  *
  * CONVENTIONS
  *
@@ -41,15 +43,30 @@
  * TIME
  *
  * The code has no branch and no address that depends on a key, on a hash key,
- * on a running sum or on a file's bytes, with one exception: the cipher's
+ * on a running sum or on a file's bytes, with two exceptions. The cipher's
  * substitution table is looked up at addresses that depend on key and block,
  * so on a machine with a data cache the cipher (armfile_encrypt, armfile_gmac,
  * armfile_start, armfile_read, armfile_seal, armfile_check) is not
- * constant-time. Time does depend on lengths, on places (p, n), on the arm
- * number, on seal numbers and on a slip's bytes outside its tag; these are
- * taken for public. A check compares two tags by one test of all their bits.
- * This is observed of the compiled library (tests/ct), and is not part of what
- * is proved.
+ * constant-time. And, in armfile_check, there is one jump on the verdict,
+ * which is public: two tags are compared by one test of all their bits. Time
+ * does depend on lengths, on places (p, n), on the arm number, on seal numbers
+ * and on a slip's bytes outside its tag; these are taken for public. This is
+ * observed of the compiled library (tests/ct), and is not part of what is
+ * proved.
+ *
+ * STACK
+ *
+ * Bytes of stack that a call takes, with its return address and the arguments
+ * that go by the stack. They are the same at every length above 0, and at 0 no
+ * more. This is measured (tests/stack), and is not part of what is proved:
+ *
+ *      armfile_encrypt    736      armfile_append       832
+ *      armfile_multiply   160      armfile_prepend      832
+ *      armfile_ghash      480      armfile_drop_front   832
+ *      armfile_gmac      1024      armfile_cut_tail     832
+ *      armfile_start      976      armfile_seal        1216
+ *      armfile_read       992      armfile_check       1056
+ *      armfile_change     832
  *
  * THE STATE
  *
@@ -64,7 +81,7 @@
  *      72      4   arm number
  *      76      8   last used seal number
  *
- * THE LAYOUT AND THE SIZE ARE PROVISIONAL until keys of both sizes are in:
+ * THE LAYOUT AND THE SIZE ARE PROVISIONAL until 32-byte keys are supported:
  * store no state that a later version must read, and write
  * ARMFILE_STATE_BYTES, never 84.
  *
@@ -120,7 +137,10 @@ extern "C" {
 #define ARMFILE_BROKEN_BLOCK 5
 /** \brief The last used seal number is 2^64 - 1: no number is left. */
 #define ARMFILE_NUMBERS_USED 6
-/** \brief A slip is not 36 bytes, or an output is not 16. */
+/**
+ * \brief A slip, to be written by a seal or judged by a check, is not 36
+ * bytes, or another output is not 16.
+ */
 #define ARMFILE_OUTPUT_LENGTH 7
 /** \brief The slip's version is not 1. */
 #define ARMFILE_SLIP_VERSION 8
@@ -270,7 +290,8 @@ uint64_t armfile_read(const uint8_t *key, size_t key_len,
 /* field products that the edit took: one for each 16-byte block that   */
 /* the given bytes touch, and at most two for each binary digit of the  */
 /* file's block count, the larger of before and after. It is the edit's */
-/* cost, and may be ignored.                                            */
+/* cost, and its value may be ignored; `count` must still point to a    */
+/* uint64_t.                                                            */
 
 /**
  * \brief Replaces bytes in place: bytes p to p + new_len - 1 become new.
@@ -367,8 +388,11 @@ uint64_t armfile_cut_tail(uint8_t state[ARMFILE_STATE_BYTES],
  * a state that was started with last = 0 numbers its first seal 1. Refused
  * with 2 where the state's length passes 2^61 - 1, then with 7 where
  * `slip_len` is not 36, then with 6 where the last used number is 2^64 - 1;
- * state and slip then stay as they were. The state must be kept after a seal,
- * or its number is used again.
+ * state and slip then stay as they were.
+ *
+ * Store the state before the slip leaves the controller. After a crash a state
+ * that was stored before the seal would use the slip's number again, and a
+ * repeated number gives the hash key away.
  *
  * \param state     the state, ARMFILE_STATE_BYTES bytes; its last used seal
  *                  number is raised.

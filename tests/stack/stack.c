@@ -1,70 +1,122 @@
-/* How many bytes of stack each call takes: it runs on a painted stack, and what an empty call takes is left out. */
+/* How many bytes of stack each call takes.
+ *
+ * The stack is painted just before a call and looked at just after it. A figure goes from the end of the caller's frame down to the lowest
+ * byte that is no longer paint: the arguments that go by the stack, the return address and every frame of the library, and nothing of the
+ * caller's own. Only bytes that are written count; what the lowest frame reserves at its end and never writes does not.
+ *
+ * It is an error where a call is refused, where it does not take the same at every length above 0, and where it takes more at length 0. */
 #define _XOPEN_SOURCE 700
 #include <pthread.h>
 #include <stdio.h>
 #include <stdlib.h>
-#include <string.h>
 #include "armfile.h"
 
-#define PAINT 0xa5
-#define STACK ((size_t)1 << 20)
+#define STACK ((size_t)1 << 18)
+#define ROOM 1024
+#define MOST 4095
+#define WHOLE(n) (((n) + 15) / 16 * 16)
 
-static uint8_t key[16], state[ARMFILE_STATE_BYTES], slip[ARMFILE_SLIP_BYTES], file[4096], out[16], verdict;
+static volatile uint8_t *stack;
+static uintptr_t caller;
+static uint8_t key[16], state[ARMFILE_STATE_BYTES], slip[ARMFILE_SLIP_BYTES], file[MOST + 16], out[16], verdict;
 static uint64_t count;
 
-static void nothing(void) {}
-static void encrypt(void) { armfile_encrypt(key, 16, file, 16, out, 16); }
-static void multiply(void) { armfile_multiply(key, 16, file, 16, out, 16); }
-static void ghash(void) { armfile_ghash(key, 16, file, 100, file, 100, out, 16); }
-static void gmac(void) { armfile_gmac(key, 16, file, 21, file, sizeof file, out, 16); }
-static void start(void) { armfile_start(key, 16, 7, 0, 40, state); }
-static void read_file(void) { armfile_read(key, 16, 7, 0, file, sizeof file, state); }
-static void change(void) { armfile_change(state, 0, file, 33, file, 33, &count); }
-static void append(void) { armfile_append(state, file, 100, &count); }
-static void prepend(void) { armfile_prepend(state, file, 160, &count); }
-static void drop_front(void) { armfile_drop_front(state, file, 160, &count); }
-static void cut_tail(void) { armfile_cut_tail(state, file, 100, &count); }
-static void seal(void) { armfile_seal(state, slip, sizeof slip); }
-static void check(void) { armfile_check(state, slip, sizeof slip, &verdict); }
+/* A call at a length, from a frame so large that the paint, which ends below the frame of the code that paints, covers its end. The room
+ * is used after the call too, so that the frame is there as long as the call. */
+#define CALL(name, call)                                  \
+	static uint64_t name(size_t n)                    \
+	{                                                 \
+		_Alignas(16) volatile uint8_t room[ROOM]; \
+		(void)n;                                  \
+		room[0] = 0;                              \
+		caller = (uintptr_t)room;                 \
+		uint64_t answer = call;                   \
+		return answer + room[0];                  \
+	}
+CALL(encrypt, armfile_encrypt(key, 16, file + n, 16, out, 16))
+CALL(multiply, armfile_multiply(key, 16, file + n, 16, out, 16))
+CALL(ghash, armfile_ghash(key, 16, file, n, file, n, out, 16))
+CALL(gmac, armfile_gmac(key, 16, file, 12 + n, file, n, out, 16))
+CALL(start, armfile_start(key, 16, 7, 0, n, state))
+CALL(read_file, armfile_read(key, 16, 7, 0, file, n, state))
+CALL(change, armfile_change(state, n, file, n, file, n, &count))
+CALL(append, armfile_append(state, file, n, &count))
+CALL(prepend, armfile_prepend(state, file, WHOLE(n), &count))
+CALL(drop_front, armfile_drop_front(state, file, WHOLE(n), &count))
+CALL(cut_tail, armfile_cut_tail(state, file, n, &count))
+CALL(seal, armfile_seal(state, slip, sizeof slip))
+CALL(check, armfile_check(state, slip, sizeof slip, &verdict))
 
 static const struct {
 	const char *name;
-	void (*call)(void);
+	uint64_t (*call)(size_t);
 } calls[] = {
-	{ "nothing", nothing }, { "encrypt", encrypt }, { "multiply", multiply }, { "ghash", ghash },
-	{ "gmac", gmac }, { "start", start }, { "read", read_file }, { "change", change },
-	{ "append", append }, { "prepend", prepend }, { "drop_front", drop_front }, { "cut_tail", cut_tail },
-	{ "seal", seal }, { "check", check },
+	{ "encrypt", encrypt }, { "multiply", multiply }, { "ghash", ghash }, { "gmac", gmac }, { "start", start },
+	{ "read", read_file }, { "change", change }, { "append", append }, { "prepend", prepend },
+	{ "drop_front", drop_front }, { "cut_tail", cut_tail }, { "seal", seal }, { "check", check },
 };
+static const size_t shorter[] = { 0, 1, 17, 100 };
 
-static void *run(void *call)
+static void stop(const char *name, const char *what)
 {
-	(*(void (**)(void))call)();
-	return NULL;
+	fprintf(stderr, "error: stack: %s %s\n", name, what);
+	exit(1);
 }
 
-static size_t used(uint8_t *stack, void (*call)(void))
+/* What a call at a length takes on this paint, with the state of a file of so many times 2^40 bytes and a slip of it. */
+static size_t on_paint(const char *name, uint64_t (*volatile call)(size_t), size_t n, uint8_t paint)
 {
-	pthread_attr_t attr;
-	pthread_t thread;
-	size_t free_bytes = 0;
+	uintptr_t low = (uintptr_t)stack, end = (uintptr_t)&low - ROOM / 2;
+	size_t i;
 
-	memset(stack, PAINT, STACK);
-	if (pthread_attr_init(&attr) || pthread_attr_setstack(&attr, stack, STACK)
-	    || pthread_create(&thread, &attr, run, &call) || pthread_join(thread, NULL))
-		exit(1);
-	while (free_bytes < STACK && stack[free_bytes] == PAINT)
-		free_bytes++;
-	return STACK - free_bytes;
+	if (armfile_start(key, 16, 7, 0, (uint64_t)n << 40, state) != 0 || armfile_seal(state, slip, sizeof slip) != 0)
+		stop(name, "has no state and slip to be called on");
+	for (i = 0; low + i < end; i++)
+		stack[i] = paint;
+	if (call(n) != 0)
+		stop(name, "is refused");
+	if (caller > end)
+		stop(name, "was not called from painted stack");
+	for (i = 0; low + i < caller && stack[i] == paint; i++)
+		;
+	return caller - low - i;
+}
+
+/* A byte that is written may happen to be the paint, so two are tried. */
+static size_t taken(size_t c, size_t n)
+{
+	size_t one = on_paint(calls[c].name, calls[c].call, n, 0xa5);
+	size_t other = on_paint(calls[c].name, calls[c].call, n, 0x5a);
+
+	return one > other ? one : other;
+}
+
+static void *run(void *unused)
+{
+	for (size_t c = 0; c < sizeof calls / sizeof calls[0]; c++) {
+		size_t figure = taken(c, MOST);
+
+		for (size_t i = 0; i < sizeof shorter / sizeof shorter[0]; i++) {
+			size_t here = taken(c, shorter[i]);
+
+			if (shorter[i] == 0 ? here > figure : here != figure)
+				stop(calls[c].name, "takes more stack at one length than at another");
+		}
+		printf("%-10s %zu\n", calls[c].name, figure);
+	}
+	return unused;
 }
 
 int main(void)
 {
-	uint8_t *stack = aligned_alloc(4096, STACK);
-	size_t i, none = used(stack, nothing);
+	pthread_attr_t attr;
+	pthread_t thread;
+	void *area = aligned_alloc(4096, STACK);
 
-	for (i = 1; i < sizeof calls / sizeof calls[0]; i++)
-		printf("%-10s %zu\n", calls[i].name, used(stack, calls[i].call) - none);
-	free(stack);
+	stack = area;
+	if (!area || pthread_attr_init(&attr) || pthread_attr_setstack(&attr, area, STACK)
+	    || pthread_create(&thread, &attr, run, NULL) || pthread_join(thread, NULL))
+		stop("thread", "does not run");
+	free(area);
 	return 0;
 }

@@ -28,7 +28,7 @@
 //! library proves what it answers; what this wrapper adds is that lengths are
 //! those of the slices.
 //!
-//! The state's layout is provisional until keys of both sizes are in: don't
+//! The state's layout is provisional until 32-byte keys are supported: don't
 //! carry stored states from one version of the library to another.
 
 #![deny(unsafe_code)]

@@ -93,7 +93,8 @@ impl Drop for Case {
         }
         let seed = self.seed;
         say(&format!(
-            "again: COMPARE_SEED={seed} cargo test --offline -p compare --test compare"
+            "again, from the root of the repository: COMPARE_SEED={seed} ARMFILE_LIB=target/lib \
+             cargo test --offline --manifest-path tests/rust/Cargo.toml -p compare --test compare"
         ));
     }
 }

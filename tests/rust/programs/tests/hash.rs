@@ -8,7 +8,7 @@ use std::time::Duration;
 use reference::ghash::ghash;
 use reference::random::Random;
 
-/// The program, ready to be started with the given standard input.
+/// The program, started with the given standard input.
 fn spawn(input: Stdio) -> Child {
     let path = std::env::var_os("HASH_PROGRAM")
         .expect("set HASH_PROGRAM to the path of the built hash program");

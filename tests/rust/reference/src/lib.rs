@@ -11,7 +11,8 @@
 //! - `machine`: the plain machine, from the bytes alone.
 //! - `calls`: the block calls on slices, with their refusals.
 //! - `refusal`: the causes and their numbers.
-//! - `random`: a small repeatable random generator for tests.
+//! - `random`: a small repeatable random generator for tests, and the bytes
+//!   that tests of edits choose with it.
 
 pub mod aes;
 pub mod calls;

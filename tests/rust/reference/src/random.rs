@@ -1,4 +1,5 @@
-//! A small repeatable random generator for tests: splitmix64.
+//! A small repeatable random generator for tests, splitmix64, and the bytes
+//! that tests of edits choose with it.
 
 /// The generator's whole memory is one 64-bit number.
 pub struct Random(u64);
@@ -44,6 +45,36 @@ impl Random {
 
     pub fn block(&mut self) -> [u8; 16] {
         std::array::from_fn(|_| self.number() as u8)
+    }
+
+    /// Up to `limit` - 1 bytes, and often only a few.
+    pub fn some_bytes(&mut self, limit: u64) -> Vec<u8> {
+        let limit = if self.once_in(2) { 4 } else { limit };
+        let count = self.below(limit) as usize;
+        self.bytes(count)
+    }
+
+    /// Up to four blocks of bytes; once in ten some other count of bytes.
+    pub fn some_blocks(&mut self) -> Vec<u8> {
+        let mut count = 16 * self.below(5);
+        if self.once_in(10) {
+            count += self.below(16);
+        }
+        self.bytes(count as usize)
+    }
+}
+
+/// The file's first bytes, as many as `given` has room for.
+pub fn copy_front(file: &[u8], given: &mut [u8]) {
+    for (to, from) in given.iter_mut().zip(file) {
+        *to = *from;
+    }
+}
+
+/// The file's last bytes, as many as `given` has room for.
+pub fn copy_tail(file: &[u8], given: &mut [u8]) {
+    for (to, from) in given.iter_mut().rev().zip(file.iter().rev()) {
+        *to = *from;
     }
 }
 

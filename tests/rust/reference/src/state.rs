@@ -17,8 +17,7 @@ use crate::slip::{nonce, Slip, SLIP_BYTES};
 /// The bytes of a packed state.
 pub const STATE_BYTES: usize = 84;
 
-/// What the controller holds. The default is the state of all zeros, which
-/// a refused start or read gives.
+/// What the controller holds. The default has zero in every field.
 #[derive(Clone, Copy, Debug, Default, PartialEq, Eq)]
 pub struct State {
     pub key: [u8; 16],

@@ -2,7 +2,7 @@
 //! document 01, "The file and its five edits".
 
 use reference::ghash::gmac;
-use reference::random::Random;
+use reference::random::{copy_front, copy_tail, Random};
 use reference::{Machine, Slip, State};
 
 /// The pair under test, and what the list has gathered so far.
@@ -76,22 +76,22 @@ impl Pair {
         match random.below(5) {
             0 => self.random_change(random, truly),
             1 => {
-                let given = random_bytes(random, 50);
+                let given = random.some_bytes(50);
                 self.edit(|s| s.append(&given), |m| m.append(&given));
             }
             2 => {
-                let given = random_blocks(random);
+                let given = random.some_blocks();
                 self.edit(|s| s.prepend(&given), |m| m.prepend(&given));
             }
             3 => {
-                let mut given = random_blocks(random);
+                let mut given = random.some_blocks();
                 if truly {
                     copy_front(&self.machine.bytes, &mut given);
                 }
                 self.edit(|s| s.drop_front(&given), |m| m.drop_front(&given));
             }
             _ => {
-                let mut given = random_bytes(random, 50);
+                let mut given = random.some_bytes(50);
                 if truly {
                     copy_tail(&self.machine.bytes, &mut given);
                 }
@@ -102,7 +102,7 @@ impl Pair {
 
     fn random_change(&mut self, random: &mut Random, truly: bool) {
         let p = random.below(self.machine.n() + 3);
-        let mut old = random_bytes(random, 40);
+        let mut old = random.some_bytes(40);
         let count = old.len() + usize::from(random.once_in(10));
         let new = random.bytes(count);
         if truly && p < self.machine.n() {
@@ -160,36 +160,6 @@ impl Pair {
         assert_eq!(self.state.n, self.machine.n());
         assert_eq!(self.state.last, self.machine.last);
         assert_eq!(self.reported, self.expected);
-    }
-}
-
-/// Up to `limit` - 1 random bytes, and often only a few.
-fn random_bytes(random: &mut Random, limit: u64) -> Vec<u8> {
-    let limit = if random.once_in(2) { 4 } else { limit };
-    let count = random.below(limit) as usize;
-    random.bytes(count)
-}
-
-/// Up to four blocks of random bytes; once in ten some other count of bytes.
-fn random_blocks(random: &mut Random) -> Vec<u8> {
-    let mut count = 16 * random.below(5);
-    if random.once_in(10) {
-        count += random.below(16);
-    }
-    random.bytes(count as usize)
-}
-
-/// The file's first bytes, as many as `given` has room for.
-fn copy_front(file: &[u8], given: &mut [u8]) {
-    for (to, from) in given.iter_mut().zip(file) {
-        *to = *from;
-    }
-}
-
-/// The file's last bytes, as many as `given` has room for.
-fn copy_tail(file: &[u8], given: &mut [u8]) {
-    for (to, from) in given.iter_mut().rev().zip(file.iter().rev()) {
-        *to = *from;
     }
 }
 

@@ -123,7 +123,6 @@ fn start_and_read_refuse_1_then_2() {
         assert_eq!(number(Machine::read(&key, 3, 4, b"a file")), expected);
         assert_eq!(number(Machine::start(&key, 3, 4, 40)), expected);
     }
-    assert_eq!(State::default().state_bytes(), [0; 84]);
 }
 
 /// Every call of a state whose n passes the limit: 2, whatever else is wrong.

@@ -54,37 +54,7 @@ pub fn block(random: &mut Random) -> Vec<u8> {
     block
 }
 
-/// Up to `limit` - 1 random bytes, and often only a few.
-pub fn some_bytes(random: &mut Random, limit: u64) -> Vec<u8> {
-    let limit = if random.once_in(2) { 4 } else { limit };
-    let count = random.below(limit) as usize;
-    random.bytes(count)
-}
-
-/// Up to four blocks of random bytes; once in ten some other count of bytes.
-pub fn some_blocks(random: &mut Random) -> Vec<u8> {
-    let mut count = 16 * random.below(5);
-    if random.once_in(10) {
-        count += random.below(16);
-    }
-    random.bytes(count as usize)
-}
-
 /// An output of a size, filled with what a call must not leave or must leave.
 pub fn output(random: &mut Random, size: usize) -> Vec<u8> {
     vec![random.number() as u8; size]
-}
-
-/// The file's first bytes, as many as `given` has room for.
-pub fn copy_front(file: &[u8], given: &mut [u8]) {
-    for (to, from) in given.iter_mut().zip(file) {
-        *to = *from;
-    }
-}
-
-/// The file's last bytes, as many as `given` has room for.
-pub fn copy_tail(file: &[u8], given: &mut [u8]) {
-    for (to, from) in given.iter_mut().rev().zip(file.iter().rev()) {
-        *to = *from;
-    }
 }

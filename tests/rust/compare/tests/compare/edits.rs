@@ -2,9 +2,10 @@
 
 use armfile::MAX_BYTES;
 use compare::{Call, Case, Lent};
+use reference::random::{copy_front, copy_tail};
 use reference::{Machine, State};
 
-use crate::choose::{copy_front, copy_tail, LENGTHS};
+use crate::choose::LENGTHS;
 
 /// Every edit of up to 40 bytes on a file of as many bytes as the case's
 /// index, with true bytes: the sum afterwards is that of the machine's bytes,

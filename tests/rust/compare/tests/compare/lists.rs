@@ -2,9 +2,10 @@
 
 use armfile::{MAX_BYTES, SLIP_BYTES};
 use compare::{Call, Case, Lent};
+use reference::random::{copy_front, copy_tail};
 use reference::Machine;
 
-use crate::choose::{copy_front, copy_tail, one_of, output, some_blocks, some_bytes, NUMBERS};
+use crate::choose::{one_of, output, NUMBERS};
 use crate::edits::by_machine;
 
 /// The calls of a list.
@@ -132,25 +133,25 @@ fn some_edit(case: &mut Case, n: u64, file: Option<&[u8]>) -> Call {
     match random.below(5) {
         0 => {
             let p = n - random.below(n.min(200) + 1) + random.below(3);
-            let mut old = some_bytes(random, 40);
+            let mut old = random.some_bytes(40);
             let length = old.len() + usize::from(random.once_in(10));
             let new = random.bytes(length);
             copy_front(held.get(p as usize..).unwrap_or_default(), &mut old);
             Call::Change { p, old, new }
         }
         1 => Call::Append {
-            bytes: some_bytes(random, 50),
+            bytes: random.some_bytes(50),
         },
         2 => Call::Prepend {
-            bytes: some_blocks(random),
+            bytes: random.some_blocks(),
         },
         3 => {
-            let mut bytes = some_blocks(random);
+            let mut bytes = random.some_blocks();
             copy_front(held, &mut bytes);
             Call::DropFront { bytes }
         }
         _ => {
-            let mut bytes = some_bytes(random, 50);
+            let mut bytes = random.some_bytes(50);
             copy_tail(held, &mut bytes);
             Call::CutTail { bytes }
         }

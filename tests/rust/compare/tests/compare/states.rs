@@ -4,9 +4,7 @@ use armfile::{MAX_BYTES, STATE_BYTES};
 use compare::{Call, Case, Lent};
 use reference::State;
 
-use crate::choose::{
-    block, one_of, output, some_blocks, some_bytes, ARMS, FILE_LENGTHS, LENGTHS, NUMBERS, SIZES,
-};
+use crate::choose::{block, one_of, output, ARMS, FILE_LENGTHS, LENGTHS, NUMBERS, SIZES};
 
 /// A state of random bytes, to be overwritten or to be left.
 fn random_lent(case: &mut Case) -> Lent {
@@ -90,23 +88,23 @@ pub fn arbitrary(case: &mut Case) {
         2 => random.number(),
         _ => random.below(n.max(1)),
     };
-    let old = some_bytes(random, 40);
+    let old = random.some_bytes(40);
     let length = old.len() + usize::from(random.once_in(8));
     let new = random.bytes(length);
     let slip_size = if random.once_in(8) { 35 } else { 36 };
     let calls = [
         Call::Change { p, old, new },
         Call::Append {
-            bytes: some_bytes(random, 70),
+            bytes: random.some_bytes(70),
         },
         Call::Prepend {
-            bytes: some_blocks(random),
+            bytes: random.some_blocks(),
         },
         Call::DropFront {
-            bytes: some_blocks(random),
+            bytes: random.some_blocks(),
         },
         Call::CutTail {
-            bytes: some_bytes(random, 70),
+            bytes: random.some_bytes(70),
         },
         Call::Seal,
         Call::Check {
