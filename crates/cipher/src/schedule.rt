@@ -9,7 +9,7 @@ ghost use Rattle.cipher.specs.Lists.{tab, at};
 ghost use Rattle.cipher.specs.Schedule.{xPower, temp};
 ghost use Rattle.cipher.specs.Rows.{word, nextRow, carried, rowOf, Expands};
 
-// The first bytes of Rcon[0] to Rcon[10]; Rcon[0] is not used.
+// The first bytes of Rcon[1] to Rcon[10] (FIPS 197, 5.2), with a byte before them that is not used.
 const RCON: [u8; 11] = [
     1,
     0x01,

@@ -1,4 +1,4 @@
-// One motion file's life: a blank start, the edits, a seal, and after a restart one read of the card and a check of the slip. Each step
+// One motion file's life: a blank start, four edits, a seal, and after a restart one read of the card and a check of the slip. Each step
 // prints the file's length, the running sum and the count of products, or the verdict.
 use file::State;
 use file::slips::Verdict;

@@ -1,4 +1,5 @@
--- `hash::hash_file` meets its contract. The loop's invariant: the bytes taken are within the limit, and the buffer keeps its length. The measure is what is left of the limit. Assumes nothing.
+-- `hash::hash_file` is safe and ends. The loop's invariant: the bytes taken are within the limit, and the buffer keeps its length. The
+-- measure is what is left of the limit. Assumes nothing.
 use mathlib.Core.Path.{_≡_, refl, sym, ap, _∙_}
 use mathlib.Core.List.{List, []}
 use Prim.Native.Nat.{ℕ, _+_, _-_, _≤_}
