@@ -25,7 +25,7 @@ use Rattle.capi.specs.Bytes.{stateBytes, stateFrom}
 use Rattle.capi.specs.Calls.{EditCall, editResult, kept, editCall, keptAtStart, startCall, readCall}
 use Rattle.capi.specs.Calls.{SealCall, sealResult, stamped, sealCall, judged, checkCall}
 use Rattle.capi.specs.Lists.{lentCall, LentRun, lentBegun, lentFurther, lentRun, Boundary}
-use Rattle.capi.proofs.StateBytes.{Fits, state-back}
+use Rattle.capi.proofs.StateBytes.{HasRoom, state-back}
 
 -- ---- one call on the bytes of a state
 
@@ -63,7 +63,7 @@ stamped-seal st out =
     (slipBytes (st .n) (st .arm) (st .last + 1) (value (stateTag st (st .arm) (st .last + 1)))) _ refl
 
 -- and every call does
-lent-call : (st : State) → Fits st → (c : Call)
+lent-call : (st : State) → HasRoom st → (c : Call)
     → lentCall (stateBytes st) c ≡ editResult (answerOf st c) (stateBytes (stateAfter st c)) (reported st c)
 unfolding lentCall answerOf stateAfter reported editCall sealCall checkCall judged
 lent-call st f (edit e) = rw (state-back st f) (kept-edit st e)
@@ -74,8 +74,8 @@ lent-call st f (check slip) = rw (state-back st f)
 
 module _ (key : List ℕ) (arm : ℕ) (k : keyFits key ≡ true) (w : arm < 2 ^ 32) where
   -- every field of an editor's state has room in its bytes
-  fits : (st : State) (m : Machine) → Holds key arm st m → Fits st
-  fits st m h =
+  has-room : (st : State) (m : Machine) → Holds key arm st m → HasRoom st
+  has-room st m h =
       record {
         key = ap length (h .same-key) ∙ fits-length key k;
         h = subst Small (sym (h .same-h)) (small-hash key);
@@ -90,7 +90,7 @@ module _ (key : List ℕ) (arm : ℕ) (k : keyFits key ≡ true) (w : arm < 2 ^ 
       → l .total ≡ r .total → Boundary l r
   unfolding sealCall stamped checkCall
   boundary l r h b a t =
-      let back : stateFrom (l .state) ≡ r .state = ap stateFrom b ∙ state-back (r .state) (fits (r .state) (r .machine) h) in
+      let back : stateFrom (l .state) ≡ r .state = ap stateFrom b ∙ state-back (r .state) (has-room (r .state) (r .machine) h) in
       record {
         state = back;
         answers = a;
@@ -104,7 +104,7 @@ module _ (key : List ℕ) (arm : ℕ) (k : keyFits key ≡ true) (w : arm < 2 ^ 
   unfolding lentRun run lentFurther further
   boundary-run l r [] h b a t = boundary l r h b a t
   boundary-run l r (c ∷ cs) h b a t =
-      let e = ap (λ (x : List ℕ). lentCall x c) b ∙ lent-call (r .state) (fits (r .state) (r .machine) h) c in
+      let e = ap (λ (x : List ℕ). lentCall x c) b ∙ lent-call (r .state) (has-room (r .state) (r .machine) h) c in
       boundary-run (lentFurther l c) (further r c) cs (holds-kept key arm (r .state) (r .machine) h c)
       (ap (λ (x : EditCall). x .state) e)
       (ap₂ (λ (x : List ℕ) (y : EditCall). x ++ (y .number ∷ [])) a e)

@@ -54,7 +54,7 @@ encoded st out k l ek ea eb ec ed ee ef eg =
 -- ---- the round trip
 
 -- every field has room in its bytes; the fields of every state that code holds do
-pub record Fits (st : State) : Type 0 where
+pub record HasRoom (st : State) : Type 0 where
   pub key : length (st .key .bytes) ≡ 16
   pub h : Small (st .h)
   pub i : Small (st .i)
@@ -84,9 +84,9 @@ number-between p t at k v l small =
     ∙ mod-eq-of-lt small
 
 -- what is written of a state is read as that state
-pub state-back : (st : State) → Fits st → stateFrom (stateBytes st) ≡ st
+pub state-back : (st : State) → HasRoom st → stateFrom (stateBytes st) ≡ st
 unfolding stateBytes
-state-back st fits =
+state-back st room =
     let k = st .key .bytes in
     let h = bytesOf (st .h) in
     let i = bytesOf (st .i) in
@@ -94,7 +94,7 @@ state-back st fits =
     let n = bytes 8 (st .n) in
     let arm = bytes 4 (st .arm) in
     let last = bytes 8 (st .last) in
-    let lh : length (k ++ h) ≡ 32 = length-append k h ∙ ap₂ _+_ (fits .key) (length-bytesOf (st .h)) in
+    let lh : length (k ++ h) ≡ 32 = length-append k h ∙ ap₂ _+_ (room .key) (length-bytesOf (st .h)) in
     let li : length (k ++ h ++ i) ≡ 48 = length-append (k ++ h) i ∙ ap₂ _+_ lh (length-bytesOf (st .i)) in
     let ls : length (k ++ h ++ i ++ s) ≡ 64 = length-append (k ++ h ++ i) s ∙ ap₂ _+_ li (length-bytesOf (st .s)) in
     let ln : length (k ++ h ++ i ++ s ++ n) ≡ 72 = length-append (k ++ h ++ i ++ s) n ∙ ap₂ _+_ ls (length-bytes 8 (st .n)) in
@@ -107,15 +107,15 @@ state-back st fits =
     let at-n : all ≡ k ++ h ++ i ++ s ++ n ++ (arm ++ last) = simp append-assoc in
     sym
     (decoded all
-    (sym (ap (take 16) at-key ∙ take-at k _ 16 (fits .key)))
-    (sym (ap (λ (x : List ℕ). blockAt x 1) at-h ∙ block-between k _ (st .h) 1 (fits .key) (fits .h)))
-    (sym (ap (λ (x : List ℕ). blockAt x 2) at-i ∙ block-between (k ++ h) _ (st .i) 2 lh (fits .i)))
-    (sym (ap (λ (x : List ℕ). blockAt x 3) at-s ∙ block-between (k ++ h ++ i) _ (st .s) 3 li (fits .s)))
-    (sym (ap (λ (x : List ℕ). number x 64 8) at-n ∙ number-between (k ++ h ++ i ++ s) _ 64 8 (st .n) ls (fits .n)))
-    (sym (number-between (k ++ h ++ i ++ s ++ n) last 72 4 (st .arm) ln (fits .arm)))
+    (sym (ap (take 16) at-key ∙ take-at k _ 16 (room .key)))
+    (sym (ap (λ (x : List ℕ). blockAt x 1) at-h ∙ block-between k _ (st .h) 1 (room .key) (room .h)))
+    (sym (ap (λ (x : List ℕ). blockAt x 2) at-i ∙ block-between (k ++ h) _ (st .i) 2 lh (room .i)))
+    (sym (ap (λ (x : List ℕ). blockAt x 3) at-s ∙ block-between (k ++ h ++ i) _ (st .s) 3 li (room .s)))
+    (sym (ap (λ (x : List ℕ). number x 64 8) at-n ∙ number-between (k ++ h ++ i ++ s) _ 64 8 (st .n) ls (room .n)))
+    (sym (number-between (k ++ h ++ i ++ s ++ n) last 72 4 (st .arm) ln (room .arm)))
     (sym
     (ap (λ (x : List ℕ). number x 76 8) (sym (append-nil all))
-    ∙ number-between (k ++ h ++ i ++ s ++ n ++ arm) [] 76 8 (st .last) la (fits .last))))
+    ∙ number-between (k ++ h ++ i ++ s ++ n ++ arm) [] 76 8 (st .last) la (room .last))))
 
 -- the first n elements of a list, and the next m
 join : (l : List ℕ) (n m : ℕ) {p q : List ℕ} → p ≡ take n l → q ≡ take m (drop n l) → p ++ q ≡ take (n + m) l

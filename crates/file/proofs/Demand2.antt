@@ -15,7 +15,7 @@ use Rattle.file.specs.States.{started, readFile}
 use Rattle.file.specs.Slips.{slipBytes, slipArm, slipSeal, nonceOf, stateTag, sealed, checked}
 use Rattle.file.specs.Machine.{Call, seal, Machine, machineNumber}
 use Rattle.file.specs.Runs.{Run, fromStart, fromRead}
-use Rattle.file.specs.Demands.{Fits, Sealing}
+use Rattle.file.specs.Demands.{SlipOf, Sealing}
 use Rattle.file.proofs.SlipLaws.{slip-back}
 use Rattle.file.proofs.TagLaws.{tag-gmac}
 use Rattle.file.proofs.Invariant.{Holds, Summed}
@@ -24,7 +24,7 @@ use Rattle.file.proofs.SealLaws.{seal-next, slip-written, slip-number, 
 
 -- a slip written from a length, an arm, a number and GMAC under them fits
 fits-written : (key : List ℕ) (arm : ℕ) (bytes : List ℕ) (number tag : ℕ) → length bytes < 2 ^ 61 → arm < 2 ^ 32 → number < 2 ^ 64
-    → tag < 2 ^ 128 → tag ≡ value (gmac key (nonceOf arm number) bytes) → Fits key arm bytes (slipBytes (length bytes) arm number tag)
+    → tag < 2 ^ 128 → tag ≡ value (gmac key (nonceOf arm number) bytes) → SlipOf key arm bytes (slipBytes (length bytes) arm number tag)
 fits-written key arm bytes number tag n a k t e =
     let back = slip-back (length bytes) arm number tag n a k t in
     record {
@@ -42,14 +42,14 @@ module _ (key : List ℕ) (arm : ℕ) (st : State) (m : Machine) (h : Holds key 
   tag-held arm′ number = cc (tag-gmac key (m .bytes) (nonceOf arm′ number) (h .short))
 
   -- so an accepted seal's slip fits
-  seals-fit : arm < 2 ^ 32 → (out : List ℕ) → machineNumber m (seal out) ≡ 0 → Fits key arm (m .bytes) (sealed st out .slip)
+  seals-fit : arm < 2 ^ 32 → (out : List ℕ) → machineNumber m (seal out) ≡ 0 → SlipOf key arm (m .bytes) (sealed st out .slip)
   seals-fit w out a =
       let n : length (m .bytes) < 2 ^ 61 = omega arith in
-      subst (Fits key arm (m .bytes)) (sym (slip-written key arm st m h out a))
+      subst (SlipOf key arm (m .bytes)) (sym (slip-written key arm st m h out a))
       (fits-written key arm (m .bytes) (m .last + 1) _ n w (seal-next key arm st m h out a) (value-lt _) (ap value (tag-held arm (m .last + 1))))
 
   -- and a byte list is genuine exactly where it fits
-  checked-fits : (slip : List ℕ) → Checked st slip → Fits key arm (m .bytes) slip
+  checked-fits : (slip : List ℕ) → Checked st slip → SlipOf key arm (m .bytes) slip
   checked-fits slip k =
       record {
         size = k .size;
@@ -59,7 +59,7 @@ module _ (key : List ℕ) (arm : ℕ) (st : State) (m : Machine) (h : Holds key 
         tag = k .tag ∙ ap value (tag-held (slipArm slip) (slipSeal slip));
       }
 
-  fits-checked : (slip : List ℕ) → Fits key arm (m .bytes) slip → Checked st slip
+  fits-checked : (slip : List ℕ) → SlipOf key arm (m .bytes) slip → Checked st slip
   fits-checked slip f =
       record {
         size = f .size;

@@ -17,19 +17,19 @@ use Rattle.file.specs.Runs.{Run, upFrom, fromStart}
 
 -- a byte list is a slip of an arm's file (document 01, "Slip, seal, check"): 36 bytes, version 1, that length, that arm, and GMAC of the
 -- bytes under the slip's own nonce
-pub record Fits (key : List ℕ) (arm : ℕ) (bytes slip : List ℕ) : Type 0 where
+pub record SlipOf (key : List ℕ) (arm : ℕ) (bytes slip : List ℕ) : Type 0 where
   pub size : length slip ≡ 36
   pub version : slipVersion slip ≡ 1
   pub count : slipLength slip ≡ length bytes
   pub same-arm : slipArm slip ≡ arm
   pub tag : slipTag slip ≡ value (gmac key (nonceOf (slipArm slip) (slipSeal slip)) bytes)
 
--- demand 2 of a run (document 01, "Slip, seal, check"): an accepted seal's slip fits the bytes held and carries the next number, and a
--- byte list is genuine exactly where it fits
+-- demand 2 of a run (document 01, "Slip, seal, check"): what an accepted seal writes is a slip of the bytes held and carries the next number,
+-- and a byte list is genuine exactly where it is a slip of them
 pub record Sealing (key : List ℕ) (arm : ℕ) (r : Run) : Type 0 where
-  pub seals : (out : List ℕ) → machineNumber (r .machine) (seal out) ≡ 0 → Fits key arm (r .machine .bytes) (sealed (r .state) out .slip)
+  pub seals : (out : List ℕ) → machineNumber (r .machine) (seal out) ≡ 0 → SlipOf key arm (r .machine .bytes) (sealed (r .state) out .slip)
   pub numbers : (out : List ℕ) → machineNumber (r .machine) (seal out) ≡ 0 → slipSeal (sealed (r .state) out .slip) ≡ r .machine .last + 1
-  pub checks : (slip : List ℕ) → (checked (r .state) slip .genuine ≡ true) ↔ Fits key arm (r .machine .bytes) slip
+  pub checks : (slip : List ℕ) → (checked (r .state) slip .genuine ≡ true) ↔ SlipOf key arm (r .machine .bytes) slip
 
 -- one read of bytes agrees with an editor's state (document 01, "The file and its five edits"): it is accepted and has the state's sum,
 -- length and tag under every nonce
