@@ -1,4 +1,4 @@
--- Document 01's bench cases of this layer, those marked with a star, as one record.
+-- Document 01's bench cases of this layer, those marked with a star, hold.
 -- Each is shown by the laws down to sums and steps of written numbers, which are computed; Algorithm 1 itself is never run.
 -- Rests on Product, Ring and Hash. Assumes nothing.
 use mathlib.Core.Path.{_≡_, refl, sym, ap, _∙_}
@@ -10,10 +10,11 @@ use lib.Dec.{lit<}
 use Rattle.field.specs.declared.blocks.Block.{Block}
 use Rattle.field.specs.Elements.{xor, only, R, shifted}
 use Rattle.field.specs.Bytes.{number, bytes}
-use Rattle.field.specs.Blocks.{block, Small, nil, one, _⊕_, _•_, blockAt}
+use Rattle.field.specs.Blocks.{block, nil, one, _⊕_, _•_, blockAt}
 use Rattle.field.specs.Powers.{digitsIn, width, steps}
 use Rattle.field.specs.Sums.{blocks}
 use Rattle.field.specs.Ghash.{Yᵢ, padded, hashed, ghash}
+use Rattle.field.specs.Cases.{Cases}
 use Rattle.field.proofs.Product.{times-x}
 use Rattle.field.proofs.Values.{small-block}
 use Rattle.field.proofs.Ring.{block-xor, block-times, nil-⊕, •-comm, •-one, one-•}
@@ -48,30 +49,27 @@ ghash-x =
     two-products (block (2 ^ 126)) 1 (2 ^ 71) (0xe1 * 2 ^ 120) _ (lit< tt) (lit< tt) (lit< tt)
     (•-comm (block 1) (block (2 ^ 126)) ∙ x-top) (•-comm _ (block (2 ^ 126)) ∙ •-x _ (lit< tt))
 
-pub record Cases : Type 0 where
-  pub one-times : (a : Block) → Small a → one • a ≡ a
-  pub x-times-top : block (2 ^ 126) • block 1 ≡ block (0xe1 * 2 ^ 120)
-  pub hash-of-nothing : (h : Block) → ghash h [] [] ≡ nil
-  pub hash-under-one : ghash one (1 ∷ []) [] ≡ block 0x01000000000000080000000000000000
-  pub hash-under-x : ghash (block (2 ^ 126)) (replicate 15 0 ++ (1 ∷ [])) [] ≡ block 0x70800000000000400000000000000000
-  pub steps-0 : steps 0 ≡ 0
-  pub steps-1 : steps 1 ≡ 1
-  pub steps-2 : steps 2 ≡ 2
-  pub steps-5 : steps 5 ≡ 4
-  pub steps-255 : steps 255 ≡ 15
-  pub steps-256 : steps 256 ≡ 9
-  -- and what the cases of n = 40, of three and of four blocks, come to
-  pub steps-3 : steps 3 ≡ 3
-  pub width-3 : width 3 ≡ 2
-  pub width-4 : width 4 ≡ 3
+-- what the cases of n = 40, of three and of four blocks, come to besides
+pub steps-3 : steps 3 ≡ 3
+unfolding steps width digitsIn ones onesIn
+steps-3 = refl
+
+pub width-3 : width 3 ≡ 2
+unfolding width digitsIn
+width-3 = refl
+
+pub width-4 : width 4 ≡ 3
+unfolding width digitsIn
+width-4 = refl
 
 pub cases : Cases
-unfolding steps width digitsIn ones onesIn
+unfolding blocks steps width digitsIn ones onesIn
 cases =
     record {
       one-times = one-•;
       x-times-top = x-top;
       hash-of-nothing = ghash-nothing;
+      blocks-of-one = refl;
       hash-under-one = ghash-one;
       hash-under-x = ghash-x;
       steps-0 = refl;
@@ -80,7 +78,4 @@ cases =
       steps-5 = refl;
       steps-255 = refl;
       steps-256 = refl;
-      steps-3 = refl;
-      width-3 = refl;
-      width-4 = refl;
     }

@@ -9,3 +9,4 @@ pub use Rattle.field.specs.Ghash.{Yᵢ, ghash}
 pub use Rattle.field.specs.Counts.{counted, sought}
 pub use Rattle.field.specs.Streams.{streamed, absorbed, absorbedAll, finished, joined, Whole, none, last, more}
 pub use Rattle.field.specs.Answers.{limit, causeNumber, answerNumber, multiplyNumber, multiplyOutput, ghashNumber, ghashOutput}
+pub use Rattle.field.specs.Cases.{Cases}

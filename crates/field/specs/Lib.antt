@@ -8,4 +8,5 @@ pub mod Ghash
 pub mod Counts
 pub mod Streams
 pub mod Answers
+pub mod Cases
 pub mod Field

@@ -12,7 +12,7 @@ use lib.Seq.{take-at}
 use Rattle.field.specs.Field.{bytes}
 use Rattle.field.proofs.Bytes.{length-bytes, bytes-append, bytes-zero, bytes-suc}
 use Rattle.field.proofs.Horner.{blocks-value}
-use Rattle.field.proofs.Cases.{cases}
+use Rattle.field.proofs.Cases.{cases, steps-3}
 use Rattle.file.specs.Edits.{Edit, change, append, prepend, dropFront, cutTail, kindOf, placeOf, given, replacing}
 use Rattle.file.specs.Edits.{editNumber, refusalFor, standsAt, lengthAfter, touched, exponent, geometry, geometryAt, countOf}
 use Rattle.file.specs.States.{refusalOf}
@@ -60,26 +60,15 @@ pub bench-cases : BenchCases
 unfolding kindOf placeOf given replacing geometry refusalFor editNumber standsAt lengthAfter touched exponent countOf
 bench-cases =
     record {
-      one-times = cases .one-times;
-      x-times-top = cases .x-times-top;
-      hash-of-nothing = cases .hash-of-nothing;
-      blocks-of-one = blocks-value 1;
-      hash-under-one = cases .hash-under-one;
-      hash-under-x = cases .hash-under-x;
-      steps-0 = cases .steps-0;
-      steps-1 = cases .steps-1;
-      steps-2 = cases .steps-2;
-      steps-5 = cases .steps-5;
-      steps-255 = cases .steps-255;
-      steps-256 = cases .steps-256;
+      field = cases;
       change-17 = λ old new a b. counted (change 17 old new) 3 1 1 a b refl (simp (blocks-value, cases .steps-1));
       change-15-16 = λ old new a b. counted (change 15 old new) 4 2 2 a b refl (simp (blocks-value, cases .steps-1));
       append-8 = λ s a. counted (append s) 2 8 0 a refl refl (simp (blocks-value, cases .steps-0));
       append-9 = λ s a. counted (append s) 4 9 0 a refl refl (simp (blocks-value, cases .steps-1));
-      prepend-16 = λ s a. counted (prepend s) 5 16 0 a refl refl (simp (blocks-value, cases .steps-3));
+      prepend-16 = λ s a. counted (prepend s) 5 16 0 a refl refl (simp (blocks-value, steps-3));
       drop-16 = λ s a. counted (dropFront s) 4 16 0 a refl refl (simp (blocks-value, cases .steps-2));
       cut-8 = λ s a. counted (cutTail s) 3 8 0 a refl refl (simp (blocks-value, cases .steps-1));
       cut-9 = λ s a. counted (cutTail s) 4 9 0 a refl refl (simp (blocks-value, cases .steps-1));
-      cut-40 = λ s a. counted (cutTail s) 7 40 0 a refl refl (simp (blocks-value, cases .steps-3));
+      cut-40 = λ s a. counted (cutTail s) 7 40 0 a refl refl (simp (blocks-value, steps-3));
       slip-begins = λ tag h. slip-head tag h ∙ head-bytes;
     }

@@ -1,11 +1,10 @@
 -- Document 01's bench cases, those marked with a star, as one statement about the definitions. Its proof is in proofs/BenchCases.
 -- Assumes nothing.
 use mathlib.Core.Path.{_≡_}
-use mathlib.Core.List.{List, [], _∷_, _++_}
+use mathlib.Core.List.{List, [], _∷_}
 use Prim.Native.Nat.{ℕ, _^_, _<_}
-use lib.ListN.{length, take, replicate}
-use Rattle.field.specs.declared.blocks.Block.{Block}
-use Rattle.field.specs.Field.{block, Small, nil, one, _•_, blocks, ghash, steps}
+use lib.ListN.{length, take}
+use Rattle.field.specs.Field.{Cases}
 use Rattle.file.specs.declared.states.State.{State}
 use Rattle.file.specs.Edits.{Edit, change, append, prepend, dropFront, cutTail}
 use Rattle.file.specs.States.{edited}
@@ -17,25 +16,8 @@ Counts e count = (st : State) → st .n ≡ 40 → (edited st e .number ≡ 0) �
 
 -- the cases marked with a star, one statement (document 01, "Bench cases")
 pub record BenchCases : Type 0 where
-  -- one times any block is that block
-  pub one-times : (b : Block) → Small b → one • b ≡ b
-  -- x times x^127
-  pub x-times-top : block 0x40000000000000000000000000000000 • block 1 ≡ block 0xe1000000000000000000000000000000
-  -- GHASH of nothing, any H
-  pub hash-of-nothing : (h : Block) → ghash h [] [] ≡ nil
-  -- H = one, file 01: its blocks and its hash
-  pub blocks-of-one : blocks 1 ≡ 1
-  pub hash-under-one : ghash one (1 ∷ []) [] ≡ block 0x01000000000000080000000000000000
-  -- H = x, file fifteen 00 then 01
-  pub hash-under-x :
-      ghash (block 0x40000000000000000000000000000000) (replicate 15 0 ++ (1 ∷ [])) [] ≡ block 0x70800000000000400000000000000000
-  -- seek steps
-  pub steps-0 : steps 0 ≡ 0
-  pub steps-1 : steps 1 ≡ 1
-  pub steps-2 : steps 2 ≡ 2
-  pub steps-5 : steps 5 ≡ 4
-  pub steps-255 : steps 255 ≡ 15
-  pub steps-256 : steps 256 ≡ 9
+  -- those of the field alone: products, hashes and seek steps
+  pub field : Cases
   -- n = 40: change byte 17; bytes 15 and 16
   pub change-17 : (old new : List ℕ) → length old ≡ 1 → length new ≡ 1 → Counts (change 17 old new) 3
   pub change-15-16 : (old new : List ℕ) → length old ≡ 2 → length new ≡ 2 → Counts (change 15 old new) 4

@@ -79,7 +79,7 @@ fn hash_file(h: Block) {
         }
         let next = stream.absorb(&buf[..n]);
         stream = next;
-        if n < 65536 {
+        if n < buf.len() {
             print_hash(stream);
             return;
         }

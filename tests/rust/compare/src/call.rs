@@ -10,6 +10,36 @@ use reference::{calls, State};
 use crate::guarded::Guarded;
 use crate::hex;
 
+/// A call made by the functions of a module and the methods of its state: the
+/// wrapper and the second implementation give them the same names.
+macro_rules! made {
+    ($call:expr, $module:ident, $state:ty, $held:ident, $after:ident) => {{
+        let out = &mut $after.out;
+        match $call {
+            Call::Encrypt { key, block } => $module::encrypt(key, block, out),
+            Call::Multiply { a, b } => $module::multiply(a, b, out),
+            Call::Ghash { h, a, c } => $module::ghash(h, a, c, out),
+            Call::Gmac { key, nonce, a } => $module::gmac(key, nonce, a, out),
+            Call::Start { key, arm, last, n } => {
+                <$state>::start(key, *arm, *last, *n).map(|state| $held = state)
+            }
+            Call::Read {
+                key,
+                arm,
+                last,
+                file,
+            } => <$state>::read(key, *arm, *last, file).map(|state| $held = state),
+            Call::Change { p, old, new } => $held.change(*p, old, new).map(|c| $after.count = c),
+            Call::Append { bytes } => $held.append(bytes).map(|c| $after.count = c),
+            Call::Prepend { bytes } => $held.prepend(bytes).map(|c| $after.count = c),
+            Call::DropFront { bytes } => $held.drop_front(bytes).map(|c| $after.count = c),
+            Call::CutTail { bytes } => $held.cut_tail(bytes).map(|c| $after.count = c),
+            Call::Seal => $held.seal(out),
+            Call::Check { slip } => $held.check(slip).map(|g| $after.verdict = g.into()),
+        }
+    }};
+}
+
 /// A call and its arguments, but for what it is lent for writing.
 #[derive(Clone)]
 pub enum Call {
@@ -184,29 +214,7 @@ impl Call {
     pub fn by_wrapper(&self, before: &Lent) -> Outcome {
         let mut after = before.clone();
         let mut held = armfile::State::from_bytes(before.state);
-        let out = &mut after.out;
-        let answer = match self {
-            Call::Encrypt { key, block } => armfile::encrypt(key, block, out),
-            Call::Multiply { a, b } => armfile::multiply(a, b, out),
-            Call::Ghash { h, a, c } => armfile::ghash(h, a, c, out),
-            Call::Gmac { key, nonce, a } => armfile::gmac(key, nonce, a, out),
-            Call::Start { key, arm, last, n } => {
-                armfile::State::start(key, *arm, *last, *n).map(|state| held = state)
-            }
-            Call::Read {
-                key,
-                arm,
-                last,
-                file,
-            } => armfile::State::read(key, *arm, *last, file).map(|state| held = state),
-            Call::Change { p, old, new } => held.change(*p, old, new).map(|c| after.count = c),
-            Call::Append { bytes } => held.append(bytes).map(|c| after.count = c),
-            Call::Prepend { bytes } => held.prepend(bytes).map(|c| after.count = c),
-            Call::DropFront { bytes } => held.drop_front(bytes).map(|c| after.count = c),
-            Call::CutTail { bytes } => held.cut_tail(bytes).map(|c| after.count = c),
-            Call::Seal => held.seal(out),
-            Call::Check { slip } => held.check(slip).map(|g| after.verdict = g.into()),
-        };
+        let answer = made!(self, armfile, armfile::State, held, after);
         after.state = *held.as_bytes();
         (answer.map_or_else(Refusal::number, |()| 0), after)
     }
@@ -216,29 +224,7 @@ impl Call {
     pub fn by_reference(&self, before: &Lent) -> Outcome {
         let mut after = before.clone();
         let mut held = State::from_state_bytes(&before.state);
-        let out = &mut after.out;
-        let answer = match self {
-            Call::Encrypt { key, block } => calls::encrypt(key, block, out),
-            Call::Multiply { a, b } => calls::multiply(a, b, out),
-            Call::Ghash { h, a, c } => calls::ghash(h, a, c, out),
-            Call::Gmac { key, nonce, a } => calls::gmac(key, nonce, a, out),
-            Call::Start { key, arm, last, n } => {
-                State::start(key, *arm, *last, *n).map(|state| held = state)
-            }
-            Call::Read {
-                key,
-                arm,
-                last,
-                file,
-            } => State::read(key, *arm, *last, file).map(|state| held = state),
-            Call::Change { p, old, new } => held.change(*p, old, new).map(|c| after.count = c),
-            Call::Append { bytes } => held.append(bytes).map(|c| after.count = c),
-            Call::Prepend { bytes } => held.prepend(bytes).map(|c| after.count = c),
-            Call::DropFront { bytes } => held.drop_front(bytes).map(|c| after.count = c),
-            Call::CutTail { bytes } => held.cut_tail(bytes).map(|c| after.count = c),
-            Call::Seal => held.seal(out),
-            Call::Check { slip } => held.check(slip).map(|g| after.verdict = g.into()),
-        };
+        let answer = made!(self, calls, State, held, after);
         after.state = held.state_bytes();
         match answer {
             Ok(()) => (0, after),

@@ -36,6 +36,36 @@ impl Record {
     pub fn key(&self) -> [u8; 16] {
         self.bytes("key").try_into().expect("a key of 16 bytes")
     }
+
+    /// Nonce, associated data and ciphertext of a GCM case, of the lengths
+    /// that it states.
+    pub fn nonce_a_c(&self) -> [Vec<u8>; 3] {
+        [("iv", "ivlen"), ("aad", "aadlen"), ("ct", "ptlen")].map(|(name, bits)| {
+            let bytes = self.bytes(name);
+            assert_eq!(8 * bytes.len(), self.number(bits), "{name}");
+            bytes
+        })
+    }
+}
+
+/// Encrypts every block of the AES-128 vectors, compares it with the published
+/// one, and says how many there were.
+pub fn aes_128_blocks(encrypt: impl Fn(&[u8; 16], &[u8; 16]) -> [u8; 16]) -> usize {
+    let records = records("aes-128.rsp");
+    assert_eq!(records.len(), 148);
+    let mut blocks = 0;
+    for record in &records {
+        let plain = record.bytes("plaintext");
+        let cipher = record.bytes("ciphertext");
+        assert_eq!(plain.len(), cipher.len());
+        assert!(!plain.is_empty() && plain.len().is_multiple_of(16));
+        for (block, expected) in plain.chunks(16).zip(cipher.chunks(16)) {
+            let answer = encrypt(&record.key(), block.try_into().expect("16 bytes"));
+            assert_eq!(answer, expected, "{:?}", record.values);
+            blocks += 1;
+        }
+    }
+    blocks
 }
 
 /// The records of a file in the directory of vectors.
