@@ -1,5 +1,4 @@
--- The laws of AES-128 that the layers above use, whose text they do not see.
--- Assumes nothing.
+-- The laws of AES and its keys that the layers above use, whose text they do not see.
 use mathlib.Core.Path.{_≡_}
 use mathlib.Core.Bool.{true}
 use mathlib.Core.List.{List}
@@ -7,14 +6,14 @@ use Prim.Native.Nat.{ℕ}
 use lib.ListN.{length}
 use borrow.Author.Tests.{eqb-true, eq-eqb}
 use Rattle.cipher.specs.Rounds.{AddRoundKey}
-use Rattle.cipher.specs.Cipher.{Cipher, aes128}
+use Rattle.cipher.specs.Cipher.{Cipher, aes}
 use Rattle.cipher.specs.Answers.{keyFits}
-use Rattle.cipher.proofs.Lists.{length-tab}
+use Rattle.cipher.proofs.Tables.{length-tab}
 
 -- the cipher gives sixteen bytes, of any lists
-pub length-aes128 : (key block : List ℕ) → length (aes128 key block) ≡ 16
-unfolding aes128 Cipher AddRoundKey
-length-aes128 key block = length-tab 16 _
+pub length-aes : (key block : List ℕ) → length (aes key block) ≡ 16
+unfolding aes Cipher AddRoundKey
+length-aes key block = length-tab 16 _
 
 -- a list is a key exactly where it has sixteen bytes
 pub fits-length : (key : List ℕ) → keyFits key ≡ true → length key ≡ 16

@@ -1,15 +1,14 @@
 -- Facts of single bytes. A fact of one byte is computed at all 256: two functions with equal tables agree below 256.
--- Assumes nothing.
 use mathlib.Core.Path.{_≡_, refl, sym, ap, _∙_}
 use mathlib.Core.List.{List}
 use Prim.Native.Nat.{ℕ, suc, _*_, _/_, _%_, _<_}
 use lib.ListN.{getD}
-use Rattle.cipher.specs.Lists.{grow, tab}
+use Rattle.cipher.specs.Tables.{grow, tab}
 use Rattle.cipher.specs.ByteField.{xor, xTimes, productOf, _•_, square, evenPower, inverse}
 use Rattle.cipher.specs.Rounds.{mixed}
-use Rattle.cipher.proofs.Lists.{getD-tab}
+use Rattle.cipher.proofs.Tables.{getD-tab}
 
-pub at-each : (n : ℕ) (f g : ℕ → ℕ) → tab n f ≡ tab n g → (b : ℕ) → b < n → f b ≡ g b
+at-each : (n : ℕ) (f g : ℕ → ℕ) → tab n f ≡ tab n g → (b : ℕ) → b < n → f b ≡ g b
 at-each n f g e b h = sym (getD-tab n f b 0 h) ∙ ap (λ (l : List ℕ). getD l b 0) e ∙ getD-tab n g b 0 h
 
 -- the code's form of a product by x
@@ -18,11 +17,11 @@ unfolding tab grow xTimes xor
 x-times b h = at-each 256 (λ b. xor (b / 128 * 27) (b % 128 * 2)) xTimes refl b h
 
 -- {02}·b and {03}·b by products by x
-pub two-times : (b : ℕ) → b < 256 → 2 • b ≡ xTimes b
+two-times : (b : ℕ) → b < 256 → 2 • b ≡ xTimes b
 unfolding tab grow xTimes xor productOf _•_
 two-times b h = at-each 256 (λ b. 2 • b) xTimes refl b h
 
-pub three-times : (b : ℕ) → b < 256 → 3 • b ≡ xor (xTimes b) b
+three-times : (b : ℕ) → b < 256 → 3 • b ≡ xor (xTimes b) b
 unfolding tab grow xTimes xor productOf _•_
 three-times b h = at-each 256 (λ b. 3 • b) (λ b. xor (xTimes b) b) refl b h
 

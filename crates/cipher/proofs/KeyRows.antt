@@ -1,5 +1,4 @@
--- The rows of the schedule: KEYEXPANSION's words, four to a row, are what the code's steps make of the rows before (specs/Rows).
--- Assumes nothing.
+-- The rows of the schedule: KEYEXPANSION's words, four to a row, are what the code's steps make of the rows before (specs/Contracts).
 use mathlib.Core.Path.{_≡_, refl, sym, ap, ap₂, _∙_, fun-ext}
 use mathlib.Core.Logic.{_⊎_, inl, inr, ⊎-elim, _≢_}
 use mathlib.Core.Bool.{Bool, true, false, cond}
@@ -12,12 +11,12 @@ use borrow.Author.Tests.{lt-ltb, le-ltb, eq-eqb, ne-eqb}
 use lib.Dec.{ltb}
 use lib.Bits.{xor-zero-r}
 use lib.ListN.{length, getD, set}
-use Rattle.cipher.specs.Lists.{grow, tab, at}
+use Rattle.cipher.specs.Tables.{grow, tab, at}
 use Rattle.cipher.specs.ByteField.{xor}
 use Rattle.cipher.specs.Rounds.{SubBytes}
 use Rattle.cipher.specs.Schedule.{addWords, RotWord, SubWord, xPower, Rcon, temp, nextWord, roundKey}
-use Rattle.cipher.specs.Rows.{word, nextRow, carried, rowOf, Expands}
-use Rattle.cipher.proofs.Lists.{getD-grow, Filled, filled-next, filled-read}
+use Rattle.cipher.specs.Contracts.{word, nextRow, carried, rowOf, Expands}
+use Rattle.cipher.proofs.Tables.{getD-grow, Filled, filled-next, filled-read}
 
 xor-zero : (a : ℕ) → xor a 0 ≡ a
 unfolding xor

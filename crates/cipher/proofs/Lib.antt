@@ -1,4 +1,4 @@
-pub mod Lists
+pub mod Tables
 pub mod Bytes
 pub mod KeyRows
 pub mod Whole

@@ -1,22 +1,27 @@
--- The whole cipher: one round more, the parts of a schedule of any number of rows, and the answers of the block call case by case.
--- Assumes nothing.
-use mathlib.Core.Path.{_≡_, refl, sym, _∙_}
-use mathlib.Core.Bool.{true, false}
+-- The whole cipher: one round more, the schedule of a key of any length that the code expands, and what the block call leaves in the output.
+use mathlib.Core.Path.{_≡_, refl, sym, ap, _∙_}
+use mathlib.Core.Bool.{true}
 use mathlib.Core.Logic.{_≢_}
 use mathlib.Core.List.{List, []}
-use Prim.Native.Nat.{ℕ, _+_, _-_, _/_}
+use Prim.Native.Nat.{ℕ, _+_, _-_, _*_, _≤_}
+use native.Mathlib.Nat.{add-sub-cancel}
 use native.Mathlib.Numerals.{add-one}
 use native.Mathlib.Omega.{arith}
-use borrow.Author.Tests.{eq-eqb, ne-eqb}
+use borrow.Author.Tests.{ne-eqb, not-false}
 use lib.ListN.{length, getD}
 use lib.Seq.{ext-getD}
-use Rattle.cipher.specs.Lists.{tab, at}
+use Rattle.cipher.specs.Tables.{tab, at}
 use Rattle.cipher.specs.Rounds.{SubBytes, ShiftRows, AddRoundKey}
 use Rattle.cipher.specs.Schedule.{KeyExpansion, schedule}
-use Rattle.cipher.specs.Rows.{rowOf, Expands}
-use Rattle.cipher.specs.Cipher.{Round, after, Cipher, aes128}
-use Rattle.cipher.specs.Answers.{keyFits, encryptNumber, encryptOutput}
-use Rattle.cipher.proofs.Lists.{length-tab, getD-tab, tab-ext}
+use Rattle.cipher.specs.Contracts.{causeNumber, answerRefusal, rowOf, Expands}
+use Rattle.cipher.specs.Cipher.{Round, after, Cipher, Nk, Nr, aes}
+use Rattle.cipher.specs.declared.Answer.{Answer}
+use Rattle.cipher.specs.declared.Answer.the-variants.{Done, Refused}
+use Rattle.cipher.specs.declared.Cause.{Cause}
+use Rattle.cipher.specs.declared.Cause.the-variants.{InputLength, OutputLength}
+use Rattle.cipher.specs.Answers.{keyFits, encryptRefusal, encryptOutput}
+use Rattle.refusals.proofs.Laws.{first-passed, agreed}
+use Rattle.cipher.proofs.Tables.{length-tab, getD-tab, tab-ext}
 use Rattle.cipher.proofs.KeyRows.{row-stable}
 
 pub after-more :
@@ -37,40 +42,52 @@ tab-at n s e =
     ext-getD 0 (tab n (at s)) s (length-tab n (at s) ∙ sym e)
     (λ i h. getD-tab n (at s) i 0 (omega (arith, length-tab n (at s))))
 
--- the rows that the code fills are the schedule
-pub schedule-rows : (key : List ℕ) (Nr : ℕ) → tab (Nr + 1) (rowOf key) ≡ schedule (length key / 4) Nr key
+-- The code expands a key that itself fills d rows, one or two. Its schedule has 4·d + 7 rows: Nr is 4·d + 6, and a row is added first.
+pub key-expands : (key : List ℕ) (d : ℕ) → length key ≡ 16 * d → 1 ≤ d → d ≤ 2 → Expands key (4 * d + 7)
+key-expands key d e low high = omega arith
+
+-- the rows that it fills are the schedule
+pub schedule-rows : (key : List ℕ) (d : ℕ) → length key ≡ 16 * d → tab (4 * d + 7) (rowOf key) ≡ schedule (Nk key) (Nr key) key
 unfolding rowOf schedule KeyExpansion
-schedule-rows key Nr = tab-ext (Nr + 1) _ _ (λ r h. row-stable (length key / 4) r (r + 1) (Nr + 1) key (omega arith) h)
+schedule-rows key d e =
+    let rows : 4 * d + 7 ≡ Nr key + 1 = omega arith in
+    rw rows (tab-ext (Nr key + 1) _ _ (λ r h. row-stable (Nk key) r (r + 1) (Nr key + 1) key (omega arith) h))
 
--- the schedule of a key of sixteen bytes
-pub schedule-128 : (key : List ℕ) → length key ≡ 16 → tab 11 (rowOf key) ≡ schedule 4 10 key
-schedule-128 key e = let q : length key / 4 ≡ 4 = omega arith in schedule-rows key 10 ∙ rw q
+-- AES by the cipher over the rows of the key's schedule
+pub aes-rows :
+    (key block : List ℕ) (rows : List (List ℕ)) → rows ≡ schedule (Nk key) (Nr key) key → Cipher (length rows - 1) block rows ≡ aes key block
+unfolding aes schedule
+aes-rows key block rows e = rw (e, length-tab, add-sub-cancel)
 
-pub expands-128 : (key : List ℕ) → length key ≡ 16 → Expands key 11
-expands-128 key e = omega arith
+-- ---- the block call
 
--- AES-128 by the cipher over the rows of its schedule
-pub aes-rows : (key block : List ℕ) (rows : List (List ℕ)) → rows ≡ schedule 4 10 key → Cipher (length rows - 1) block rows ≡ aes128 key block
-unfolding aes128 schedule
-aes-rows key block rows e = rw (e, length-tab)
+cause-refuses : (cause : Cause) → causeNumber cause ≢ 0
+cause-refuses InputLength e = omega arith
+cause-refuses OutputLength e = omega arith
 
--- ---- the block call, case by case
+-- where nothing is refused, key, block and output have the lengths that they need
+no-cause : (key block out : List ℕ) → encryptRefusal key block out ≡ 0 → (keyFits key ≡ true) × (length block ≡ 16) × (length out ≡ 16)
+unfolding encryptRefusal
+no-cause key block out e =
+    let a = first-passed _ _ _ e (omega arith) in
+    let b = first-passed _ _ _ (a .1) (omega arith) in
+    let c = first-passed _ _ _ (b .1) (omega arith) in
+    (search not-false, search agreed, search agreed)
 
-module _ (key block out : List ℕ) where
-  pub refused-key : keyFits key ≡ false → (1 ≡ encryptNumber key block out) × (out ≡ encryptOutput key block out)
-  unfolding encryptOutput encryptNumber
-  refused-key k = (rw k, rw k)
+-- answer is what was found of the call's refusal
+module _ (key block out : List ℕ) {answer : Answer} (told : answerRefusal answer ≡ encryptRefusal key block out) where
+  -- a refusal leaves the output as it was
+  pub refused : (cause : Cause) → answer ≡ Refused cause → out ≡ encryptOutput key block out
+  unfolding encryptOutput
+  refused cause r = rw (ne-eqb (encryptRefusal key block out) 0 (λ z. cause-refuses cause (sym (ap answerRefusal r) ∙ told ∙ z)))
 
-  pub refused-block : keyFits key ≡ true → length block ≢ 16 → (1 ≡ encryptNumber key block out) × (out ≡ encryptOutput key block out)
-  unfolding encryptOutput encryptNumber
-  refused-block k b = (rw (k, ne-eqb _ _ b), rw (k, ne-eqb _ _ b))
+  none : answer ≡ Done → encryptRefusal key block out ≡ 0
+  none d = sym told ∙ ap answerRefusal d
 
-  pub refused-output :
-      keyFits key ≡ true → length block ≡ 16 → length out ≢ 16 → (7 ≡ encryptNumber key block out) × (out ≡ encryptOutput key block out)
-  unfolding encryptOutput encryptNumber
-  refused-output k b o = (rw (k, eq-eqb _ _ b, ne-eqb _ _ o), rw (k, eq-eqb _ _ b, ne-eqb _ _ o))
+  pub lengths-fit : answer ≡ Done → (keyFits key ≡ true) × (length block ≡ 16) × (length out ≡ 16)
+  lengths-fit d = no-cause key block out (none d)
 
-  pub done : (k b e w : List ℕ) → keyFits key ≡ true → length block ≡ 16 → length out ≡ 16 → k ≡ key → b ≡ block → e ≡ aes128 k b → w ≡ e
-      → (0 ≡ encryptNumber key block out) × (w ≡ encryptOutput key block out)
-  unfolding encryptOutput encryptNumber
-  done k b e w hk hb ho ek eb ee ew = (rw (hk, eq-eqb _ _ hb, eq-eqb _ _ ho), ew ∙ ee ∙ rw (hk, eq-eqb _ _ hb, eq-eqb _ _ ho, ek, eb))
+  -- and what is written is the output
+  pub written : (k b x w : List ℕ) → answer ≡ Done → k ≡ key → b ≡ block → x ≡ aes k b → w ≡ x → w ≡ encryptOutput key block out
+  unfolding encryptOutput
+  written k b x w d ek eb ex ew = ew ∙ ex ∙ rw (none d, ek, eb)

@@ -1,6 +1,5 @@
 -- The finite field of bytes, GF(2^8) (FIPS 197, section 4). A byte is a number below 256; its bit i, of weight 2 ^ i, is the coefficient
 -- of x^i.
--- Assumes nothing.
 use Prim.Native.Nat.{ℕ, zero, suc, _*_, _/_, _%_}
 use lib.Bits.{bitXor}
 

@@ -1,8 +1,7 @@
--- CIPHER (FIPS 197, section 5.1) over the rows of a schedule, and AES-128.
--- Assumes nothing.
+-- CIPHER (FIPS 197, section 5.1) over the rows of a schedule, and AES by the key's length.
 use mathlib.Core.List.{List, []}
-use Prim.Native.Nat.{ℕ, zero, suc, _-_}
-use lib.ListN.{getD}
+use Prim.Native.Nat.{ℕ, zero, suc, _+_, _-_, _/_}
+use lib.ListN.{length, getD}
 use Rattle.cipher.specs.Rounds.{SubBytes, ShiftRows, MixColumns, AddRoundKey}
 use Rattle.cipher.specs.Schedule.{schedule}
 
@@ -19,6 +18,14 @@ after rows s (suc r) = Round (after rows s r) (getD rows (suc r) [])
 unfoldable pub Cipher : ℕ → List ℕ → List (List ℕ) → List ℕ
 Cipher Nr input rows = AddRoundKey (ShiftRows (SubBytes (after rows (AddRoundKey input (getD rows 0 [])) (Nr - 1)))) (getD rows Nr [])
 
--- AES-128: Nk = 4, Nr = 10 (section 5)
-unfoldable pub aes128 : List ℕ → List ℕ → List ℕ
-aes128 key input = Cipher 10 input (schedule 4 10 key)
+-- Nk: the key's number of 32-bit words (section 5)
+abbrev pub Nk : List ℕ → ℕ
+Nk key = length key / 4
+
+-- Nr: the number of rounds, Nk + 6 for every key length of the standard (section 5, table 3)
+abbrev pub Nr : List ℕ → ℕ
+Nr key = Nk key + 6
+
+-- AES of a block, by the key's length (section 5); which lengths are taken is keyFits (specs/Answers)
+unfoldable pub aes : List ℕ → List ℕ → List ℕ
+aes key input = Cipher (Nr key) input (schedule (Nk key) (Nr key) key)

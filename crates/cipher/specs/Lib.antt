@@ -1,9 +1,9 @@
-pub mod Lists
+pub mod Tables
 pub mod ByteField
 pub mod Substitution
 pub mod Rounds
 pub mod Schedule
-pub mod Rows
 pub mod Cipher
 pub mod Answers
+pub mod Contracts
 pub mod Aes

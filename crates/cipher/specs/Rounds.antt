@@ -1,9 +1,8 @@
 -- The four transformations of the state (FIPS 197, sections 5.1.1 to 5.1.4). The state s has its byte in row r and column c at place
 -- r + 4·c of a list of sixteen (section 3.4).
--- Assumes nothing.
 use mathlib.Core.List.{List}
 use Prim.Native.Nat.{ℕ, _+_, _*_, _/_, _%_}
-use Rattle.cipher.specs.Lists.{tab, at}
+use Rattle.cipher.specs.Tables.{tab, at}
 use Rattle.cipher.specs.ByteField.{xor, _•_}
 use Rattle.cipher.specs.Substitution.{sbox}
 

@@ -1,11 +1,10 @@
 -- KEYEXPANSION (FIPS 197, section 5.2), for any number Nk of key words and Nr of rounds. A word is a list of four bytes.
--- Assumes nothing.
 use mathlib.Core.Bool.{cond}
 use mathlib.Core.List.{List, [], _∷_, _++_}
 use Prim.Native.Nat.{ℕ, zero, suc, _+_, _-_, _*_, _/_, _%_}
 use lib.Dec.{ltb, eqb}
 use lib.ListN.{getD}
-use Rattle.cipher.specs.Lists.{grow, tab, at}
+use Rattle.cipher.specs.Tables.{grow, tab, at}
 use Rattle.cipher.specs.ByteField.{xor, xTimes}
 use Rattle.cipher.specs.Substitution.{sbox}
 

@@ -1,5 +1,4 @@
 -- The substitution box by its rule (FIPS 197, section 5.1.1): the inverse in the byte field, 0 to 0, and then the affine step.
--- Assumes nothing.
 use Prim.Native.Nat.{ℕ, zero, suc, _+_, _*_, _/_, _%_, _^_}
 use Rattle.cipher.specs.ByteField.{inverse}
 

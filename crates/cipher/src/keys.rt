@@ -1,11 +1,11 @@
-// Keys, and AES-128 by value for the layers above.
+// Keys, their schedules, and AES by value for the layers above.
 use super::rounds::cipher;
 use super::schedule::fill;
 ghost use mathlib.Core.Path.{_≡_};
 ghost use mathlib.Core.Bool.{true};
 ghost use lib.ListN.{length};
 ghost use Rattle.cipher.specs.Schedule.{schedule};
-ghost use Rattle.cipher.specs.Cipher.{aes128};
+ghost use Rattle.cipher.specs.Cipher.{Nk, Nr, aes};
 ghost use Rattle.cipher.specs.Answers.{keyFits};
 
 // A cipher key.
@@ -30,18 +30,18 @@ impl Key {
         Key { bytes }
     }
 
-    // Serves the layers above: AES-128 of one block, by value.
+    // Serves the layers above: AES of one block, by value.
     pub fn encrypt(self, block: [u8; 16]) -> [u8; 16]
-        ensures { λ r. ⌜ r ≡ aes128 (self .bytes) block ⌝ }
+        ensures { λ r. ⌜ r ≡ aes (self .bytes) block ⌝ }
     {
         let rows = expand(self);
         cipher(&rows, block)
     }
 }
 
-// The key schedule of ten rounds: eleven rows of sixteen bytes.
+// The key's schedule: eleven rows of sixteen bytes, one that is added first and one for each of the ten rounds.
 fn expand(key: Key) -> [[u8; 16]; 11]
-    ensures { λ r. ⌜ r ≡ schedule 4 10 (key .bytes) ⌝ }
+    ensures { λ r. ⌜ r ≡ schedule (Nk (key .bytes)) (Nr (key .bytes)) (key .bytes) ⌝ }
 {
     let bytes = key.bytes;
     let blank = [0u8; 16];

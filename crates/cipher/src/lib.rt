@@ -1,4 +1,4 @@
-// AES-128 encryption of one block (FIPS 197). This layer knows nothing of the field or of files.
+// AES encryption of one block (FIPS 197). This layer knows nothing of the field or of files.
 mod byte_field;
 mod keys;
 mod rounds;
@@ -8,9 +8,10 @@ pub use keys::Key;
 use keys::sixteen;
 ghost use mathlib.Core.Path.{_≡_};
 ghost use lib.ListN.{length};
-ghost use Rattle.cipher.specs.Answers.{answerNumber, encryptNumber, encryptOutput};
+ghost use Rattle.cipher.specs.Answers.{encryptRefusal, encryptOutput};
+ghost use Rattle.cipher.specs.Contracts.{answerRefusal};
 
-// Why a block call is refused. Document 01's numbers for the causes are in specs/Answers.
+// Why a block call is refused. Document 01's numbers for the causes are in specs/Contracts.
 pub enum Cause {
     // Key or block is not 16 bytes.
     InputLength,
@@ -26,8 +27,20 @@ pub enum Answer {
 // Encrypts one block. Refused, in this order, where key or block is not 16 bytes and where the output is not; the output then
 // stays as it was. The time depends on no byte but through the substitution table's addresses.
 pub fn encrypt(key: &[u8], block: &[u8], out: &mut [u8]) -> Answer
-    ensures answer { λ r. ⌜ answerNumber r ≡ encryptNumber (now (key .entry)) (now (block .entry)) (now (out .entry)) ⌝ }
+    ensures answer { λ r. ⌜ answerRefusal r ≡ encryptRefusal (now (key .entry)) (now (block .entry)) (now (out .entry)) ⌝ }
     ensures output { λ _. ⌜ now (out .exit) ≡ encryptOutput (now (key .entry)) (now (block .entry)) (now (out .entry)) ⌝ }
+{
+    let answer = encrypt_refusal(key, block, out);
+    if let Answer::Refused(_) = answer {
+        return answer;
+    }
+    write(Key::from_bytes(key).encrypt(sixteen(block)), out);
+    answer
+}
+
+// The refusal of the block call, or Done.
+fn encrypt_refusal(key: &[u8], block: &[u8], out: &[u8]) -> Answer
+    ensures { λ r. ⌜ answerRefusal r ≡ encryptRefusal (now (key .entry)) (now (block .entry)) (now (out .entry)) ⌝ }
 {
     if !Key::fits(key) {
         return Answer::Refused(Cause::InputLength);
@@ -38,7 +51,6 @@ pub fn encrypt(key: &[u8], block: &[u8], out: &mut [u8]) -> Answer
     if out.len() != 16 {
         return Answer::Refused(Cause::OutputLength);
     }
-    write(Key::from_bytes(key).encrypt(sixteen(block)), out);
     Answer::Done
 }
 

@@ -1,60 +1,68 @@
--- `cipher::encrypt` meets its contract. Each return by its own law: two refusals 1, refusal 7, and the work done. Assumes nothing.
-use Rattle.cipher.proofs.Whole.{refused-key, refused-block, refused-output, done}
-use borrow.Author.Tests.{not-true, not-false}
-use mathlib.Core.Path.{sym, _∙_}
+-- `cipher::encrypt` meets its contract. A refusal leaves the output as it was, and where there is none all lengths fit and AES is written.
+use Rattle.cipher.proofs.Whole.{refused, lengths-fit, written}
 use borrow.Author.Needs.{needs}
 use Rattle.cipher.proofs.encrypt.Statement.{statement}
 use Rattle.cipher.proofs.encrypt.Tie as tie
 
-fits-requires : tie.Need-fits-requires
-fits-requires c κs = search needs
+encrypt-refusal-requires : tie.Need-encrypt-refusal-requires
+encrypt-refusal-requires c κs = search needs
+
+enum-told : tie.Need-enum-told
+enum-told c = search needs
+
+same-length : tie.Need-same-length
+same-length c = search needs
 
 returns : tie.Need-returns
-returns c = refused-key _ _ _ (sym (c .before .fits2 .ensures) ∙ not-true _ (c .if1 .taken))
+returns c =
+    let told = c .before .before .encrypt-refusal .ensures in
+    (told, refused _ _ _ told _ (c .enum-told .given .1))
 
-returns-2 : tie.Need-returns-2
-returns-2 c = refused-block _ _ _ (sym (c .before .before .fits2 .ensures) ∙ not-false _ (c .before .if1 .left)) (c .if2 .taken)
-
-returns-3 : tie.Need-returns-3
-returns-3 c = refused-output _ _ _ (sym (c .before .before .before .fits2 .ensures) ∙ not-false _ (c .before .before .if1 .left)) (c .before .if2 .left) (c .if3 .taken)
+enum-told-2 : tie.Need-enum-told-2
+enum-told-2 c = search needs
 
 from-bytes-requires : tie.Need-from-bytes-requires
-from-bytes-requires c κs = sym (c .before .before .before .fits2 .ensures) ∙ not-false _ (c .before .before .if1 .left)
+from-bytes-requires c κs = lengths-fit _ _ _ (c .before .before .encrypt-refusal .ensures) (c .enum-told2 .given .1) .0
 
 sixteen-requires : tie.Need-sixteen-requires
-sixteen-requires c κs = search needs
+sixteen-requires c κs = lengths-fit _ _ _ (c .before .before .before .encrypt-refusal .ensures) (c .before .enum-told2 .given .1) .1
 
 encrypt-requires : tie.Need-encrypt-requires
 encrypt-requires c κs = search needs
 
 write-requires : tie.Need-write-requires
-write-requires c κs = search needs
+write-requires c κs =
+    let done = c .before .before .before .before in
+    lengths-fit _ _ _ (done .before .before .encrypt-refusal .ensures) (done .enum-told2 .given .1) .2
 
-same-length : tie.Need-same-length
-same-length c = search needs
+same-length-2 : tie.Need-same-length-2
+same-length-2 c = search needs
 
-returns-4 : tie.Need-returns-4
-returns-4 c =
-    let written = c .before .before in
-    let encrypted = written .before .before in
+returns-2 : tie.Need-returns-2
+returns-2 c =
+    let wrote = c .before .before in
+    let encrypted = wrote .before .before in
     let block = encrypted .before in
     let key = block .before in
-    let tests = key .before in
-    done _ _ _ _ _ _ _ (sym (tests .before .before .before .fits2 .ensures) ∙ not-false _ (tests .before .before .if1 .left))
-    (tests .before .if2 .left) (tests .if3 .left) (key .from-bytes .ensures) (block .sixteen .ensures) (encrypted .encrypt .ensures)
-    (written .write .ensures)
+    let done = key .before in
+    let told = done .before .before .encrypt-refusal .ensures in (
+      told,
+      written _ _ _ told _ _ _ _ (done .enum-told2 .given .1) (key .from-bytes .ensures) (block .sixteen .ensures)
+          (encrypted .encrypt .ensures) (wrote .write .ensures),
+    )
 
 pub encrypt-spec : {M : Type 1} → statement M
 encrypt-spec =
     tie.close
     (tie.spec
-    fits-requires
+    encrypt-refusal-requires
+    enum-told
+    same-length
     returns
-    returns-2
-    returns-3
+    enum-told-2
     from-bytes-requires
     sixteen-requires
     encrypt-requires
     write-requires
-    same-length
-    returns-4)
+    same-length-2
+    returns-2)

@@ -1,4 +1,4 @@
--- `cipher_vectors::after` answers an index of the line. Assumes nothing.
+-- `cipher_vectors::after` answers an index of the line.
 use borrow.Author.Needs.{needs}
 use Prim.Native.Nat.{_-_, _≤_}
 use lib.ListN.{length}

@@ -1,4 +1,4 @@
--- `cipher_vectors::block_at` reads within the line. Assumes nothing.
+-- `cipher_vectors::block_at` reads within the line.
 use borrow.Author.Needs.{needs}
 use Prim.Native.Nat.{_-_}
 use Rattle.cipher_vectors.proofs.block_at.Statement.{statement}

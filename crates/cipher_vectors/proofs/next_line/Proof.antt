@@ -1,4 +1,4 @@
--- `cipher_vectors::next_line` goes on by a byte at least, and stays in the text. Assumes nothing.
+-- `cipher_vectors::next_line` goes on by a byte at least, and stays in the text.
 use borrow.Author.Needs.{needs}
 use Prim.Native.Nat.{_-_, _≤_, _<_}
 use lib.ListN.{length}

@@ -1,4 +1,4 @@
--- `cipher_vectors::print_bytes` is safe and ends. Assumes nothing.
+-- `cipher_vectors::print_bytes` is safe and ends.
 use borrow.Author.Needs.{needs}
 use Prim.Native.Nat.{_-_}
 use Rattle.cipher_vectors.proofs.print_bytes.Statement.{statement}

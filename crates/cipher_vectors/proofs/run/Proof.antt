@@ -1,4 +1,4 @@
--- `cipher_vectors::run` stays in the text, and counts no more blocks than it has bytes. Assumes nothing.
+-- `cipher_vectors::run` stays in the text, and counts no more blocks than it has bytes.
 use borrow.Author.Needs.{needs}
 use Prim.Native.Nat.{_-_, _≤_}
 use lib.ListN.{length}

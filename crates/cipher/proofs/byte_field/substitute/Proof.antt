@@ -1,9 +1,9 @@
 -- `cipher::byte_field::substitute` meets its contract. One computed test: the table's 256 numbers are those of `sbox`. The law of a table's
--- entries turns it into the rule at every entry. Assumes nothing.
-use Rattle.cipher.proofs.Lists.{getD-tab}
+-- entries turns it into the rule at every entry.
+use Rattle.cipher.proofs.Tables.{getD-tab}
 use Rattle.cipher.specs.Substitution.{bit, fromBits, affineBit, affine, sbox}
 use Rattle.cipher.specs.ByteField.{xor, xTimes, productOf, _•_, square, evenPower, inverse}
-use Rattle.cipher.specs.Lists.{grow, tab}
+use Rattle.cipher.specs.Tables.{grow, tab}
 use native.Mathlib.Omega.{arith}
 use borrow.Author.Needs.{needs}
 use Rattle.cipher.proofs.byte_field.substitute.Statement.{statement}

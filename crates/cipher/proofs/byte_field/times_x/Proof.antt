@@ -1,4 +1,4 @@
--- `cipher::byte_field::times_x` meets its contract. The product by x without a branch is XTIMES, computed at all 256 bytes. Assumes nothing.
+-- `cipher::byte_field::times_x` meets its contract. The product by x without a branch is XTIMES, computed at all 256 bytes.
 use Rattle.cipher.proofs.Bytes.{x-times}
 use Rattle.cipher.specs.ByteField.{xor}
 use native.Mathlib.Omega.{arith}

@@ -1,8 +1,8 @@
--- `cipher::rounds::add_round_key` meets its contract. The loop's invariant: the first i bytes have the round key's added. Assumes nothing.
-use Rattle.cipher.proofs.Lists.{Filled, filled-start, filled-next, filled-done}
+-- `cipher::rounds::add_round_key` meets its contract. The loop's invariant: the first i bytes have the round key's added.
+use Rattle.cipher.proofs.Tables.{Filled, filled-start, filled-next, filled-done}
 use Rattle.cipher.specs.Rounds.{AddRoundKey}
 use Rattle.cipher.specs.ByteField.{xor}
-use Rattle.cipher.specs.Lists.{at, tab}
+use Rattle.cipher.specs.Tables.{at, tab}
 use borrow.Author.Needs.{needs}
 use native.Mathlib.Omega.{arith}
 use mathlib.Core.Path.{refl}

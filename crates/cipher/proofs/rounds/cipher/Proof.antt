@@ -1,4 +1,4 @@
--- `cipher::rounds::cipher` meets its contract. The loop's invariant: the state is that after `done` rounds. Assumes nothing.
+-- `cipher::rounds::cipher` meets its contract. The loop's invariant: the state is that after `done` rounds.
 use Rattle.cipher.proofs.Whole.{after-more, cipher-done}
 use Rattle.cipher.specs.Cipher.{after}
 use borrow.Author.Needs.{needs}

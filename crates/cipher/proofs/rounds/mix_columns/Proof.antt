@@ -1,7 +1,7 @@
--- `cipher::rounds::mix_columns` meets its contract. The loop's invariant: the first i bytes are those of the mixed columns. Assumes nothing.
-use Rattle.cipher.proofs.Lists.{Filled, filled-start, filled-next, filled-done}
+-- `cipher::rounds::mix_columns` meets its contract. The loop's invariant: the first i bytes are those of the mixed columns.
+use Rattle.cipher.proofs.Tables.{Filled, filled-start, filled-next, filled-done}
 use Rattle.cipher.specs.Rounds.{mixedEntry, MixColumns}
-use Rattle.cipher.specs.Lists.{tab}
+use Rattle.cipher.specs.Tables.{tab}
 use borrow.Author.Needs.{needs}
 use native.Mathlib.Omega.{arith}
 use Prim.Native.Nat.{_-_, _/_, _%_}

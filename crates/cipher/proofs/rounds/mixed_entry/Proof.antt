@@ -1,4 +1,4 @@
--- `cipher::rounds::mixed_entry` meets its contract. One byte of a mixed column: {02} and {03} by products by x. Assumes nothing.
+-- `cipher::rounds::mixed_entry` meets its contract. One byte of a mixed column: {02} and {03} by products by x.
 use lib.ListN.{getD}
 use Prim.Native.Nat.{ℕ}
 use Rattle.cipher.proofs.Bytes.{mixed-bytes}

@@ -1,4 +1,4 @@
--- `cipher::rounds::round` meets its contract. A round is its four transformations. Assumes nothing.
+-- `cipher::rounds::round` meets its contract. A round is its four transformations.
 use Rattle.cipher.specs.Cipher.{Round}
 use mathlib.Core.Path.{_∙_}
 use borrow.Author.Needs.{needs}

@@ -1,7 +1,7 @@
--- `cipher::rounds::shift_rows` meets its contract. The loop's invariant: the first i bytes are those of the shifted rows. Assumes nothing.
-use Rattle.cipher.proofs.Lists.{Filled, filled-start, filled-next, filled-done}
+-- `cipher::rounds::shift_rows` meets its contract. The loop's invariant: the first i bytes are those of the shifted rows.
+use Rattle.cipher.proofs.Tables.{Filled, filled-start, filled-next, filled-done}
 use Rattle.cipher.specs.Rounds.{entry, ShiftRows}
-use Rattle.cipher.specs.Lists.{tab}
+use Rattle.cipher.specs.Tables.{tab}
 use borrow.Author.Needs.{needs}
 use native.Mathlib.Omega.{arith}
 use mathlib.Core.Path.{refl}

@@ -1,8 +1,8 @@
--- `cipher::rounds::sub_bytes` meets its contract. The loop's invariant: the first i bytes are substituted. Assumes nothing.
-use Rattle.cipher.proofs.Lists.{Filled, filled-start, filled-next, filled-done}
+-- `cipher::rounds::sub_bytes` meets its contract. The loop's invariant: the first i bytes are substituted.
+use Rattle.cipher.proofs.Tables.{Filled, filled-start, filled-next, filled-done}
 use Rattle.cipher.specs.Rounds.{SubBytes}
 use Rattle.cipher.specs.Substitution.{sbox}
-use Rattle.cipher.specs.Lists.{at, tab}
+use Rattle.cipher.specs.Tables.{at, tab}
 use borrow.Author.Needs.{needs}
 use native.Mathlib.Omega.{arith}
 use Prim.Native.Nat.{_-_}

@@ -1,5 +1,5 @@
--- `cipher::schedule::added_byte` meets its contract. The two cases of `carried`. Assumes nothing.
-use Rattle.cipher.specs.Rows.{carried}
+-- `cipher::schedule::added_byte` meets its contract. The two cases of `carried`.
+use Rattle.cipher.specs.Contracts.{carried}
 use borrow.Author.Tests.{lt-ltb, le-ltb}
 use borrow.Author.Needs.{needs}
 use Rattle.cipher.proofs.schedule.added_byte.Statement.{statement}

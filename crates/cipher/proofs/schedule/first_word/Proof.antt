@@ -1,5 +1,5 @@
 -- `cipher::schedule::first_word` meets its contract. What is added to a row's first word is KEYEXPANSION's temp: turned where d divides r, and
--- only substituted where not. Assumes nothing.
+-- only substituted where not.
 use Rattle.cipher.proofs.KeyRows.{first-turned, first-substituted}
 use Rattle.cipher.specs.ByteField.{xor}
 use borrow.Author.Needs.{needs}

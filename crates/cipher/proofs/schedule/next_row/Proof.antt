@@ -1,9 +1,9 @@
--- `cipher::schedule::next_row` meets its contract. The loop's invariant: the first i bytes are the next row's. Assumes nothing.
+-- `cipher::schedule::next_row` meets its contract. The loop's invariant: the first i bytes are the next row's.
 use Rattle.cipher.proofs.KeyRows.{next-filled, next-grown}
-use Rattle.cipher.proofs.Lists.{Filled, filled-start, filled-done}
-use Rattle.cipher.specs.Rows.{carried}
+use Rattle.cipher.proofs.Tables.{Filled, filled-start, filled-done}
+use Rattle.cipher.specs.Contracts.{carried}
 use Rattle.cipher.specs.ByteField.{xor}
-use Rattle.cipher.specs.Lists.{at}
+use Rattle.cipher.specs.Tables.{at}
 use borrow.Author.Needs.{needs}
 use native.Mathlib.Omega.{arith}
 use mathlib.Core.Path.{_∙_}

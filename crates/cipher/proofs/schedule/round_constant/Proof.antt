@@ -1,8 +1,8 @@
--- `cipher::schedule::round_constant` meets its contract. The table's eleven numbers are computed to be the powers of x. Assumes nothing.
-use Rattle.cipher.proofs.Lists.{getD-tab}
+-- `cipher::schedule::round_constant` meets its contract. The table's eleven numbers are computed to be the powers of x.
+use Rattle.cipher.proofs.Tables.{getD-tab}
 use Rattle.cipher.specs.Schedule.{xPower}
 use Rattle.cipher.specs.ByteField.{xor, xTimes}
-use Rattle.cipher.specs.Lists.{grow, tab}
+use Rattle.cipher.specs.Tables.{grow, tab}
 use Prim.Native.Nat.{_-_}
 use borrow.Author.Needs.{needs}
 use Rattle.cipher.proofs.schedule.round_constant.Statement.{statement}

@@ -1,4 +1,4 @@
--- `cipher::schedule::row_at` meets its contract. A row is the key's own, or follows from the rows before it by KEYEXPANSION. Assumes nothing.
+-- `cipher::schedule::row_at` meets its contract. A row is the key's own, or follows from the rows before it by KEYEXPANSION.
 use Rattle.cipher.proofs.KeyRows.{rowOf-own, rowOf-next, constant-within}
 use native.Mathlib.Omega.{arith}
 use mathlib.Core.Path.{_∙_}

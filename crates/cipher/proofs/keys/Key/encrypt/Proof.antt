@@ -1,4 +1,4 @@
--- `cipher::keys::Key::encrypt` meets its contract. AES-128 is the cipher over the eleven rows of its schedule. Assumes nothing.
+-- `cipher::keys::Key::encrypt` meets its contract. AES is the cipher over the rows of the key's schedule.
 use Rattle.cipher.proofs.Whole.{aes-rows}
 use mathlib.Core.Path.{_∙_}
 use borrow.Author.Needs.{needs}

@@ -1,4 +1,4 @@
--- `cipher::keys::Key::fits` meets its contract. The test is the definition of a key. Assumes nothing.
+-- `cipher::keys::Key::fits` meets its contract. The test is the definition of a key.
 use Rattle.cipher.specs.Answers.{keyFits}
 use mathlib.Core.Path.{refl}
 use Rattle.cipher.proofs.keys.Key.fits.Statement.{statement}

@@ -1,4 +1,4 @@
--- `cipher::keys::Key::from_bytes` meets its contract. A slice that is a key has sixteen bytes. Assumes nothing.
+-- `cipher::keys::Key::from_bytes` meets its contract. A slice that is a key has sixteen bytes.
 use Rattle.cipher.proofs.AesLaws.{fits-length}
 use borrow.Author.Needs.{needs}
 use Rattle.cipher.proofs.keys.Key.from_bytes.Statement.{statement}

@@ -1,6 +1,5 @@
 -- Laws of lists that are built from the front, and the invariant of a loop that fills an array with one: of the n places the first i hold
 -- what they are to hold, and the others what they held before.
--- Assumes nothing.
 use mathlib.Core.Path.{_≡_, refl, sym, ap, ap₂, _∙_}
 use mathlib.Core.List.{List, [], _∷_, _++_, append-nil}
 use Prim.Native.Nat.{ℕ, zero, suc, _+_, _≤_, _<_}
@@ -10,10 +9,10 @@ use native.Mathlib.Numerals.{add-one}
 use native.Mathlib.Omega.{arith}
 use lib.ListN.{length, getD, drop, set, length-append, length-drop, List·getD-append, drop-of-length-le}
 use lib.Seq.{getD-at, set-at, drop-cons, append-snoc}
-use Rattle.cipher.specs.Lists.{grow, tab}
+use Rattle.cipher.specs.Tables.{grow, tab}
 
 module _ {A : Type 0} where
-  pub length-grow : (g : List A → ℕ → A) (n : ℕ) → length (grow g n) ≡ n
+  length-grow : (g : List A → ℕ → A) (n : ℕ) → length (grow g n) ≡ n
   unfolding grow
   length-grow g zero = refl
   length-grow g (suc n) = simp (length-append, length-grow g n) (add-one n)

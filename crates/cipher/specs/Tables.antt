@@ -1,5 +1,4 @@
 -- Lists that are built from the front, as the loops of FIPS 197 fill an array.
--- Assumes nothing.
 use mathlib.Core.List.{List, [], _∷_, _++_}
 use Prim.Native.Nat.{ℕ, zero, suc}
 use lib.ListN.{getD}
