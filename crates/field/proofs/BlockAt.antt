@@ -1,6 +1,5 @@
 -- Laws of a byte list's blocks: the blocks of a joined, a padded and an added list, that every block is small, and that a block's
 -- bytes are read back as the block. They rest on the laws of numbers as bytes (`Bytes`, `XorBytes`) and of blocks (`Values`).
--- Assumes nothing.
 use mathlib.Core.Path.{_≡_, ap, _∙_}
 use mathlib.Core.List.{List, _++_}
 use Prim.Native.Nat.{ℕ, suc, _+_, _*_, _^_, _≤_, _<_}
@@ -9,7 +8,7 @@ use native.Mathlib.Omega.{arith}
 use lib.ListN.{length, getD, take, drop, replicate}
 use Rattle.field.specs.declared.blocks.Block.{Block}
 use Rattle.field.specs.Bytes.{number, bytes, xorBytes}
-use Rattle.field.specs.Blocks.{_⊕_, nil, Small, value, block, blockAt, bytesOf}
+use Rattle.field.specs.Blocks.{_⊕_, zeroBlock, Small, value, block, blockAt, bytesOf}
 use Rattle.field.proofs.Values.{value-lt, value-block, block-value, small-block}
 use Rattle.field.proofs.Ring.{block-xor}
 use Rattle.field.proofs.Bytes.{number-lt, number-append-left, number-append-right, number-past, number-padded, number-zeros}
@@ -41,12 +40,12 @@ unfolding blockAt
 blockAt-padded s r i = ap block (number-padded s r (16 * i) 16)
 
 -- past the end of a list there are zero blocks
-pub blockAt-past : (s : List ℕ) (i : ℕ) → length s ≤ 16 * i → blockAt s i ≡ nil
-unfolding blockAt nil
+pub blockAt-past : (s : List ℕ) (i : ℕ) → length s ≤ 16 * i → blockAt s i ≡ zeroBlock
+unfolding blockAt zeroBlock
 blockAt-past s i h = ap block (number-past s (16 * i) 16 h)
 
-pub blockAt-zeros : (r i : ℕ) → blockAt (replicate r 0) i ≡ nil
-unfolding blockAt nil
+pub blockAt-zeros : (r i : ℕ) → blockAt (replicate r 0) i ≡ zeroBlock
+unfolding blockAt zeroBlock
 blockAt-zeros r i = ap block (number-zeros r (16 * i) 16)
 
 -- the block of a sum is the sum of the blocks

@@ -1,14 +1,13 @@
--- Laws of numbers as big-endian bytes: the number in a list that is joined or padded, what the bytes of a number are, and that
--- they are read back as the number.
--- Assumes nothing.
+-- Laws of numbers as big-endian bytes: the number in a list that is joined or padded and in a part of a list, what the bytes of a
+-- number are, and that they are read back as the number.
 use mathlib.Core.Path.{_≡_, refl, sym, ap, ap₂, _∙_}
 use mathlib.Core.List.{List, [], _∷_, _++_, append-nil, append-assoc}
-use Prim.Native.Nat.{ℕ, zero, suc, _+_, _-_, _*_, _/_, _%_, _^_, _≤_, _<_}
+use Prim.Native.Nat.{ℕ, zero, suc, _+_, _*_, _/_, _%_, _^_, _≤_, _<_}
 use native.Mathlib.Nat.{le-refl, le-step, le-of-eq, zero-lt-suc, add-zero, zero-add, add-suc, add-assoc, mul-one, mul-assoc, one-le-pow}
 use native.Mathlib.Nat.{pow-suc, mod-lt, mod-mod, mod-one, div-lt-iff-lt-mul, mul-add-mod-self-right, mul-add-div-right, add-mul}
 use native.Mathlib.Omega.{arith}
 use lib.ListN.{length, getD, take, drop, replicate, length-append, length-drop, List·getD-append, List·getD-eq-default}
-use lib.Seq.{getD-append-add, getD-at, getD-drop, take-suc}
+use lib.Seq.{getD-append-add, getD-at, getD-take, getD-drop, take-suc}
 use lib.Arith.{digits-lt, mod-mul, lt-one}
 use Rattle.field.specs.Bytes.{number, bytes}
 
@@ -43,6 +42,20 @@ pub number-append-right : (s t : List ℕ) (at k : ℕ) → number (s ++ t) (len
 number-append-right s t at k =
     number-cong (s ++ t) t (length s + at) at k
     (λ j l. ap (λ (x : ℕ). x % 256) (ap (λ (i : ℕ). getD (s ++ t) i 0) (add-assoc (length s) at j) ∙ getD-append-add s t (at + j) 0))
+
+-- in what is left of a list without its first elements
+pub number-drop : (s : List ℕ) (n at k : ℕ) → number (drop n s) at k ≡ number s (n + at) k
+number-drop s n at k =
+    number-cong (drop n s) s at (n + at) k
+    (λ j l. ap (λ (x : ℕ). x % 256) (getD-drop n s (at + j) 0 ∙ ap (λ (i : ℕ). getD s i 0) (sym (add-assoc n at j))))
+
+pub number-from : (s : List ℕ) (at k : ℕ) → number (drop at s) 0 k ≡ number s at k
+number-from s at k = number-drop s at 0 k ∙ ap (λ (i : ℕ). number s i k) (add-zero at)
+
+-- and in its first elements
+pub number-take : (s : List ℕ) (n at k : ℕ) → at + k ≤ n → number (take n s) at k ≡ number s at k
+number-take s n at k h =
+    number-cong (take n s) s at at k (λ j l. ap (λ (x : ℕ). x % 256) (getD-take n s (at + j) 0 (omega arith)))
 
 -- j and then k bytes, read as one number
 pub number-split : (s : List ℕ) (at j k : ℕ) → number s at (j + k) ≡ number s at j * 256 ^ k + number s (at + j) k

@@ -1,7 +1,6 @@
 -- Every element to the power 2 ^ 128 is itself, so that H times H times its companion is H.
 -- Squaring is additive, so taking the power 2 ^ k is additive and multiplicative; where it keeps x it keeps every element.
 -- Rests on Powers, Squares and Span. No exponent is ever counted down: each law is over a variable k.
--- Assumes nothing.
 use mathlib.Core.Path.{_≡_, refl, sym, ap, ap₂, _∙_}
 use Prim.Native.Nat.{ℕ, zero, suc, _+_, _-_, _^_, _<_}
 use native.Mathlib.Nat.{two-pow-succ}
@@ -9,14 +8,14 @@ use lib.Pow.{pow-pos}
 use lib.Dec.{lit<}
 use Rattle.field.specs.declared.blocks.Block.{Block}
 use Rattle.field.specs.Elements.{xor, times}
-use Rattle.field.specs.Blocks.{value, block, Small, nil, one, _⊕_, _•_}
+use Rattle.field.specs.Blocks.{value, block, Small, zeroBlock, one, _⊕_, _•_}
 use Rattle.field.specs.Powers.{power, companion}
 use Rattle.field.proofs.Xor.{xor-lt}
 use Rattle.field.proofs.Span.{shifted-lt, one-lt, span}
 use Rattle.field.proofs.Product.{times-x}
-use Rattle.field.proofs.Values.{value-lt, block-value, small-block, small-nil, small-one}
+use Rattle.field.proofs.Values.{value-lt, block-value, small-block, small-zero, small-one}
 use Rattle.field.proofs.Ring.{value-⊕, value-•, block-xor, block-times}
-use Rattle.field.proofs.Ring.{•-comm, •-assoc, •-⊕, •-nil, •-one}
+use Rattle.field.proofs.Ring.{•-comm, •-assoc, •-⊕, •-zero, •-one}
 use Rattle.field.proofs.Powers.{power-zero, power-suc, power-one, power-add, power-of-product}
 use Rattle.field.proofs.Squares.{square-times, squares, squares-lt, squares-x, times-square-xor}
 
@@ -42,9 +41,9 @@ power-⊕ a b (suc k) =
     ∙ sym (ap₂ _⊕_ (power-double a k) (power-double b k))
 
 -- 2 ^ k is never 0, so this power of nothing is nothing
-power-nil : (k : ℕ) → power nil (2 ^ k) ≡ nil
-power-nil zero = power-one nil small-nil
-power-nil (suc k) = power-double nil k ∙ ap (λ (c : Block). c • c) (power-nil k) ∙ •-nil nil
+power-of-zero : (k : ℕ) → power zeroBlock (2 ^ k) ≡ zeroBlock
+power-of-zero zero = power-one zeroBlock small-zero
+power-of-zero (suc k) = power-double zeroBlock k ∙ ap (λ (c : Block). c • c) (power-of-zero k) ∙ •-zero zeroBlock
 
 pub power-of-one : (k : ℕ) → power one k ≡ one
 power-of-one zero = power-zero one
@@ -63,7 +62,7 @@ kept : (k : ℕ) → power (block (2 ^ 126)) (2 ^ k) ≡ block (2 ^ 126) → (v 
 kept k e v h =
     span (λ (a : ℕ). (a < 2 ^ 128) × (power (block a) (2 ^ k) ≡ block a))
     (record {
-      none = (pow-pos 128, unfold nil in power-nil k);
+      none = (pow-pos 128, unfold zeroBlock in power-of-zero k);
       sum = λ a b p q. (
         xor-lt 128 a b (p .0) (q .0),
         rw (block-xor a b (p .0) (q .0)) (power-⊕ (block a) (block b) k ∙ ap₂ _⊕_ (p .1) (q .1)),

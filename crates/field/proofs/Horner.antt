@@ -1,48 +1,23 @@
 -- Y, by which GHASH and code go over a list's blocks, from any start: over joined and padded lists, past a list's end, of added
--- lists; how many blocks a list has; and Horner's rule, by which Y of all the blocks from nothing is document 01's sum (`horner`).
+-- lists; and Horner's rule, by which Y of all the blocks from nothing is document 01's sum (`horner`).
 -- They rest on the laws of the field (`Ring`) and of a list's blocks (`BlockAt`).
--- Assumes nothing.
 use mathlib.Core.Path.{_≡_, refl, sym, ap, ap₂, _∙_}
 use mathlib.Core.List.{List, _++_}
-use Prim.Native.Nat.{ℕ, zero, suc, _+_, _-_, _*_, _/_, _≤_, _<_}
+use Prim.Native.Nat.{ℕ, zero, suc, _+_, _-_, _*_, _≤_, _<_}
 use native.Mathlib.Nat.{le-refl, le-step, le-of-lt, add-zero, add-suc}
 use native.Mathlib.Omega.{arith}
 use lib.ListN.{length, replicate, length-append}
 use Rattle.field.specs.declared.blocks.Block.{Block}
 use Rattle.field.specs.Bytes.{xorBytes}
-use Rattle.field.specs.Blocks.{_⊕_, _•_, nil, one, Small, blockAt}
+use Rattle.field.specs.Blocks.{_⊕_, _•_, zeroBlock, one, Small, blockAt}
 use Rattle.field.specs.Powers.{power}
 use Rattle.field.specs.Sums.{blocks, terms, sum}
 use Rattle.field.specs.Ghash.{Yᵢ}
-use Rattle.field.proofs.Values.{small-nil}
-use Rattle.field.proofs.Ring.{⊕-assoc, ⊕-swap, ⊕-self, ⊕-nil, nil-⊕, •-assoc, ⊕-•, nil-•, •-one, small-⊕, small-•}
+use Rattle.field.proofs.Values.{small-zero}
+use Rattle.field.proofs.Ring.{⊕-assoc, ⊕-swap, ⊕-self, ⊕-zero, zero-⊕, •-assoc, ⊕-•, zero-•, •-one, small-⊕, small-•}
 use Rattle.field.proofs.BlockAt.{small-blockAt, blockAt-append-left, blockAt-append-right, blockAt-padded, blockAt-past}
 use Rattle.field.proofs.BlockAt.{blockAt-zeros, blockAt-xor}
-
--- ---- how many blocks
-
--- the definition, for the layers above
-pub blocks-value : (n : ℕ) → blocks n ≡ (n + 15) / 16
-unfolding blocks
-blocks-value n = refl
-
--- the blocks hold all the bytes
-pub le-blocks : (n : ℕ) → n ≤ 16 * blocks n
-unfolding blocks
-le-blocks n = omega arith
-
-pub blocks-mono : {n m : ℕ} → n ≤ m → blocks n ≤ blocks m
-unfolding blocks
-blocks-mono h = omega arith
-
--- whole blocks in front are counted apart from the bytes behind them
-pub blocks-whole : (j n : ℕ) → blocks (16 * j + n) ≡ j + blocks n
-unfolding blocks
-blocks-whole j n = omega arith
-
-pub blocks-times : (j : ℕ) → blocks (16 * j) ≡ j
-unfolding blocks
-blocks-times j = omega arith
+use Rattle.field.proofs.BlockCounts.{blocks-whole, blocks-times}
 
 -- ---- Y from any start
 
@@ -88,17 +63,17 @@ Yᵢ-past h y s m zero k l = ap (Yᵢ h y s) (add-zero m) ∙ sym (•-one (Yᵢ
 Yᵢ-past h y s m (suc d) k l =
     ap (Yᵢ h y s) (add-suc m d)
     ∙ ap (λ (b : Block). (Yᵢ h y s (m + d) ⊕ b) • h) (blockAt-past s (m + d) (omega arith))
-    ∙ ap (λ (a : Block). a • h) (⊕-nil (Yᵢ h y s (m + d)) (small-Yᵢ h y s (m + d) k) ∙ Yᵢ-past h y s m d k l)
+    ∙ ap (λ (a : Block). a • h) (⊕-zero (Yᵢ h y s (m + d)) (small-Yᵢ h y s (m + d) k) ∙ Yᵢ-past h y s m d k l)
     ∙ •-assoc (Yᵢ h y s m) (power h d) h
 
 -- Y of nothing but zero bytes, from nothing, is nothing
-pub Yᵢ-zeros : (h : Block) (r i : ℕ) → Yᵢ h nil (replicate r 0) i ≡ nil
+pub Yᵢ-zeros : (h : Block) (r i : ℕ) → Yᵢ h zeroBlock (replicate r 0) i ≡ zeroBlock
 unfolding Yᵢ
 Yᵢ-zeros h r zero = refl
 Yᵢ-zeros h r (suc i) =
     ap₂ (λ (a b : Block). (a ⊕ b) • h) (Yᵢ-zeros h r i) (blockAt-zeros r i)
-    ∙ ap (λ (a : Block). a • h) (⊕-self nil)
-    ∙ nil-• h
+    ∙ ap (λ (a : Block). a • h) (⊕-self zeroBlock)
+    ∙ zero-• h
 
 -- Y is linear, in the start and the list together
 pub Yᵢ-linear : (h y z : Block) (s t : List ℕ) (i : ℕ) → Yᵢ h (y ⊕ z) (xorBytes s t) i ≡ Yᵢ h y s i ⊕ Yᵢ h z t i
@@ -110,22 +85,22 @@ Yᵢ-linear h y z s t (suc i) =
     ∙ ⊕-• (Yᵢ h y s i ⊕ blockAt s i) (Yᵢ h z t i ⊕ blockAt t i) h
 
 -- Y from nothing is a multiple of H
-pub Yᵢ-multiple : (h : Block) (s : List ℕ) (i : ℕ) → (x : Block) × Small x × (Yᵢ h nil s i ≡ x • h)
+pub Yᵢ-multiple : (h : Block) (s : List ℕ) (i : ℕ) → (x : Block) × Small x × (Yᵢ h zeroBlock s i ≡ x • h)
 unfolding Yᵢ
-Yᵢ-multiple h s zero = (nil, small-nil, sym (nil-• h))
-Yᵢ-multiple h s (suc i) = (Yᵢ h nil s i ⊕ blockAt s i, small-⊕ (Yᵢ h nil s i) (blockAt s i), refl)
+Yᵢ-multiple h s zero = (zeroBlock, small-zero, sym (zero-• h))
+Yᵢ-multiple h s (suc i) = (Yᵢ h zeroBlock s i ⊕ blockAt s i, small-⊕ (Yᵢ h zeroBlock s i) (blockAt s i), refl)
 
 -- ---- Horner's rule
 
 pub small-terms : (h : Block) (s : List ℕ) (m i : ℕ) → Small (terms h s m i)
 unfolding terms
-small-terms h s m zero = small-nil
+small-terms h s m zero = small-zero
 small-terms h s m (suc i) = small-⊕ _ _
 
 -- one power of H more in every term
 terms-suc : (h : Block) (s : List ℕ) (m i : ℕ) → i ≤ m → terms h s (suc m) i ≡ terms h s m i • h
 unfolding terms power
-terms-suc h s m zero l = sym (nil-• h)
+terms-suc h s m zero l = sym (zero-• h)
 terms-suc h s m (suc i) l =
     let e : suc m - i ≡ suc (m - i) = omega arith in
     ap₂ (λ (a : Block) (x : ℕ). a ⊕ blockAt s i • power h x) (terms-suc h s m i (le-of-lt l)) e
@@ -144,7 +119,7 @@ last-term h s i =
 -- Y after i blocks is the start times H^i and each block times its power
 pub Yᵢ-terms : (h y : Block) (s : List ℕ) (i : ℕ) → Small y → Yᵢ h y s i ≡ y • power h i ⊕ terms h s i i
 unfolding Yᵢ terms power
-Yᵢ-terms h y s zero k = sym (⊕-nil (y • one) (small-• y one) ∙ •-one y k)
+Yᵢ-terms h y s zero k = sym (⊕-zero (y • one) (small-• y one) ∙ •-one y k)
 Yᵢ-terms h y s (suc i) k =
     let b = blockAt s i in
     let p = power h i in
@@ -155,10 +130,10 @@ Yᵢ-terms h y s (suc i) k =
     ∙ ap₂ _⊕_ (•-assoc y p h) (⊕-• rest b h ∙ sym (ap₂ _⊕_ (terms-suc h s i i (le-refl i)) (last-term h s i)))
 
 -- the sum is Y of all the blocks, from nothing
-pub horner : (h : Block) (s : List ℕ) → Yᵢ h nil s (blocks (length s)) ≡ sum h s
+pub horner : (h : Block) (s : List ℕ) → Yᵢ h zeroBlock s (blocks (length s)) ≡ sum h s
 unfolding sum
 horner h s =
     let m = blocks (length s) in
-    Yᵢ-terms h nil s m small-nil
-    ∙ ap (λ (a : Block). a ⊕ terms h s m m) (nil-• (power h m))
-    ∙ nil-⊕ (terms h s m m) (small-terms h s m m)
+    Yᵢ-terms h zeroBlock s m small-zero
+    ∙ ap (λ (a : Block). a ⊕ terms h s m m) (zero-• (power h m))
+    ∙ zero-⊕ (terms h s m m) (small-terms h s m m)

@@ -1,21 +1,20 @@
 -- Words read from bytes and written to bytes, as code does it: lead zero bytes in front of a list, the invariants of the loops
--- that read and write a word, and a block read and written as two words. They rest on the laws of numbers as bytes (`Bytes`) and
--- of blocks (`Values`, `BlockAt`).
--- Assumes nothing.
+-- that read and write a word, and a block read and written as two words. They rest on the laws of numbers as bytes (`Bytes`), of
+-- stores (`Stores`) and of blocks (`Values`, `BlockAt`).
 use mathlib.Core.Path.{_≡_, refl, sym, ap, ap₂, _∙_}
-use mathlib.Core.List.{List, [], _∷_, _++_, append-nil}
+use mathlib.Core.List.{List, _++_}
 use Prim.Native.Nat.{ℕ, suc, _+_, _-_, _*_, _/_, _%_, _^_, _≤_, _<_}
-use native.Mathlib.Nat.{add-zero, pow-le-pow-right, zero-lt-suc, mod-eq-of-lt, lt-of-lt-of-le}
+use native.Mathlib.Nat.{pow-le-pow-right, zero-lt-suc, mod-eq-of-lt, lt-of-lt-of-le}
 use native.Mathlib.Numerals.{add-one}
 use native.Mathlib.Omega.{arith}
 use lib.ListN.{length, getD, set, replicate, length-set, length-replicate, getD-replicate, List·getD-append, List·getD-eq-default}
-use lib.ListN.{drop-of-length-le}
-use lib.Seq.{getD-append-add, set-comm, sets, sets-eq}
+use lib.Seq.{getD-append-add, sets}
 use Rattle.field.specs.declared.blocks.Block.{Block}
 use Rattle.field.specs.Bytes.{number, bytes}
 use Rattle.field.specs.Blocks.{Small, value, block, blockAt, bytesOf}
 use Rattle.field.proofs.Values.{words, block-words, value-small}
 use Rattle.field.proofs.Bytes.{number-lt, number-split, length-bytes, bytes-append}
+use Rattle.field.proofs.Stores.{sets-snoc, sets-append, sets-whole}
 use Rattle.field.proofs.BlockAt.{length-bytesOf}
 
 -- ---- lead zero bytes in front of a list
@@ -37,65 +36,43 @@ past-end lead s v h l = sym (List·getD-eq-default s 0 l) ∙ past-lead lead s v
 -- ---- a word read byte by byte
 
 -- n is the number of the first k of the bytes to read
-pub record Reading (s : List ℕ) (at count n k : ℕ) : Type 0 where
-  pub within : k ≤ count
+pub record Reading (s : List ℕ) (at size n k : ℕ) : Type 0 where
+  pub within : k ≤ size
   pub is : n ≡ number s at k
 
-pub reading-start : (s : List ℕ) (at count : ℕ) → Reading s at count 0 0
+pub reading-start : (s : List ℕ) (at size : ℕ) → Reading s at size 0 0
 unfolding number
-reading-start s at count = record { within = omega arith; is = refl }
+reading-start s at size = record { within = omega arith; is = refl }
 
 -- what was read has room for one byte more, of eight
-pub reading-lt : {s : List ℕ} {at count n k : ℕ} → Reading s at count n k → count ≤ 8 → k < count → n < 2 ^ 56
-reading-lt {s} {at} {count} {n} {k} r h l =
+pub reading-lt : {s : List ℕ} {at size n k : ℕ} → Reading s at size n k → size ≤ 8 → k < size → n < 2 ^ 56
+reading-lt {s} {at} {size} {n} {k} r h l =
     rw (r .is) (lt-of-lt-of-le (number-lt s at k) (pow-le-pow-right (zero-lt-suc 255) {i = k} {j = 7} (omega arith)))
 
-pub reading-next : {s : List ℕ} {at count n k : ℕ} (b : ℕ) → Reading s at count n k → k < count → b < 256 → b ≡ getD s (at + k) 0
-    → Reading s at count (n * 256 + b) (k + 1)
+pub reading-next : {s : List ℕ} {at size n k : ℕ} (b : ℕ) → Reading s at size n k → k < size → b < 256 → b ≡ getD s (at + k) 0
+    → Reading s at size (n * 256 + b) (k + 1)
 unfolding number
-reading-next {s} {at} {count} {n} {k} b r l small e =
+reading-next {s} {at} {size} {n} {k} b r l small e =
     record {
       within = omega arith;
       is = rw add-one (ap₂ (λ (x y : ℕ). x * 256 + y) (r .is) (sym (mod-eq-of-lt small) ∙ ap (λ (x : ℕ). x % 256) e));
     }
 
-pub reading-done : {s : List ℕ} {at count n k : ℕ} → Reading s at count n k → count ≤ k → n ≡ number s at count
-reading-done {s} {at} {count} {n} {k} r h =
-    let e : k ≡ count = omega arith in
+pub reading-done : {s : List ℕ} {at size n k : ℕ} → Reading s at size n k → size ≤ k → n ≡ number s at size
+reading-done {s} {at} {size} {n} {k} r h =
+    let e : k ≡ size = omega arith in
     r .is ∙ ap (number s at) e
-
--- ---- stores
-
--- one store behind a run of stores is one more element of the run
-sets-snoc : (l : List ℕ) (i : ℕ) (vs : List ℕ) (x : ℕ) → sets (set l (i + length vs) x) i vs ≡ sets l i (vs ++ (x ∷ []))
-sets-snoc l i [] x = ap (λ (j : ℕ). set l j x) (add-zero i)
-sets-snoc l i (a ∷ vs) x =
-    let e : i + suc (length vs) ≡ suc i + length vs = omega arith in
-    ap (λ (t : List ℕ). sets t (suc i) vs) (set-comm l (i + suc (length vs)) i x a (omega arith) ∙ ap (λ (j : ℕ). set (set l i a) j x) e)
-    ∙ sets-snoc (set l i a) (suc i) vs x
-
--- two runs of stores, the second where the first ends, are one
-pub sets-append : (l : List ℕ) (i : ℕ) (vs ws : List ℕ) → sets (sets l i vs) (i + length vs) ws ≡ sets l i (vs ++ ws)
-sets-append l i [] ws = ap (λ (j : ℕ). sets l j ws) (add-zero i)
-sets-append l i (a ∷ vs) ws =
-    let e : i + suc (length vs) ≡ suc i + length vs = omega arith in
-    ap (λ (j : ℕ). sets (sets (set l i a) (suc i) vs) j ws) e ∙ sets-append (set l i a) (suc i) vs ws
-
--- a run of stores over the whole list leaves nothing of it
-sets-whole : (l vs : List ℕ) → length l ≡ length vs → sets l 0 vs ≡ vs
-sets-whole l vs e =
-    sets-eq vs l 0 (omega arith) ∙ ap (λ (t : List ℕ). vs ++ t) (drop-of-length-le l {i = 0 + length vs} (omega arith)) ∙ append-nil vs
 
 -- ---- a word written byte by byte, the last byte first
 
 -- out is to get the k bytes of rest yet, and then holds what it is to hold
-pub record Writing (out₀ : List ℕ) (at count v : ℕ) (out : List ℕ) (rest k : ℕ) : Type 0 where
-  pub within : k ≤ count
-  pub size : length out ≡ length out₀
-  pub is : sets out at (bytes k rest) ≡ sets out₀ at (bytes count v)
+pub record Writing (out₀ : List ℕ) (at size v : ℕ) (out : List ℕ) (rest k : ℕ) : Type 0 where
+  pub within : k ≤ size
+  pub room : length out ≡ length out₀
+  pub is : sets out at (bytes k rest) ≡ sets out₀ at (bytes size v)
 
-pub writing-start : (out : List ℕ) (at count v : ℕ) → Writing out at count v out v count
-writing-start out at count v = record { within = omega arith; size = refl; is = refl }
+pub writing-start : (out : List ℕ) (at size v : ℕ) → Writing out at size v out v size
+writing-start out at size v = record { within = omega arith; room = refl; is = refl }
 
 write-byte : (out : List ℕ) (at k rest : ℕ)
     → sets (set out (at + k) (rest % 256)) at (bytes k (rest / 256)) ≡ sets out at (bytes (suc k) rest)
@@ -104,20 +81,20 @@ write-byte out at k rest =
     ap (λ (n : ℕ). sets (set out (at + n) (rest % 256)) at (bytes k (rest / 256))) (sym (length-bytes k (rest / 256)))
     ∙ sets-snoc out at (bytes k (rest / 256)) (rest % 256)
 
-pub writing-next : {out₀ : List ℕ} {at count v : ℕ} {out : List ℕ} {rest k : ℕ} → Writing out₀ at count v out rest k → 0 < k
-    → Writing out₀ at count v (set out (at + (k - 1)) (rest % 256)) (rest / 256) (k - 1)
-writing-next {out₀} {at} {count} {v} {out} {rest} {k} w h =
+pub writing-next : {out₀ : List ℕ} {at size v : ℕ} {out : List ℕ} {rest k : ℕ} → Writing out₀ at size v out rest k → 0 < k
+    → Writing out₀ at size v (set out (at + (k - 1)) (rest % 256)) (rest / 256) (k - 1)
+writing-next {out₀} {at} {size} {v} {out} {rest} {k} w h =
     let e : suc (k - 1) ≡ k = omega arith in
     record {
       within = omega (arith, w .within);
-      size = length-set out (at + (k - 1)) (rest % 256) ∙ w .size;
+      room = length-set out (at + (k - 1)) (rest % 256) ∙ w .room;
       is = write-byte out at (k - 1) rest ∙ ap (λ (j : ℕ). sets out at (bytes j rest)) e ∙ w .is;
     }
 
-pub writing-done : {out₀ : List ℕ} {at count v : ℕ} {out : List ℕ} {rest k : ℕ} → Writing out₀ at count v out rest k → k ≤ 0
-    → out ≡ sets out₀ at (bytes count v)
+pub writing-done : {out₀ : List ℕ} {at size v : ℕ} {out : List ℕ} {rest k : ℕ} → Writing out₀ at size v out rest k → k ≤ 0
+    → out ≡ sets out₀ at (bytes size v)
 unfolding bytes
-writing-done {out₀} {at} {count} {v} {out} {rest} {k} w h =
+writing-done {out₀} {at} {size} {v} {out} {rest} {k} w h =
     let e : 0 ≡ k = omega arith in
     ap (λ (j : ℕ). sets out at (bytes j rest)) e ∙ w .is
 

@@ -1,5 +1,5 @@
 -- The laws of powers of blocks: powers are small, exponents add and multiply, and the power of a product is the product of powers.
--- They are unconditional but for the first power, which gives a small block back. Rests on Ring. Assumes nothing.
+-- They are unconditional but for the first power, which gives a small block back. Rests on Ring.
 use mathlib.Core.Path.{_≡_, refl, sym, ap, ap₂, _∙_}
 use Prim.Native.Nat.{ℕ, zero, suc, _+_, _*_}
 use native.Mathlib.Nat.{add-zero, add-suc, mul-zero, mul-suc}

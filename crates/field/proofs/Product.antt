@@ -1,7 +1,6 @@
 -- The product of Algorithm 1 on numbers below 2 ^ 128: its bound, additive in each argument, unit, commutative, associative.
 -- Each law that is not the recursion's own is shown by `span`: at one, for sums, and for one more factor x.
 -- Rests on Recursion and Span.
--- Assumes nothing.
 use mathlib.Core.Path.{_≡_, sym, ap, ap₂, _∙_}
 use Prim.Native.Nat.{ℕ, _^_, _<_}
 use native.Mathlib.Nat.{mod-eq-of-lt}

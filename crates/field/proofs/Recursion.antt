@@ -1,7 +1,6 @@
 -- Algorithm 1's Z equals a recursion over the bits of one argument from the left (`times-mul`), and the laws of that
 -- recursion for any number of bits: bound, additive in each argument, one step of `shifted`, and what one does on each side.
 -- Rests on Xor and on the laws of `shifted` in Span.
--- Assumes nothing.
 use mathlib.Core.Path.{_≡_, refl, sym, ap, ap₂, _∙_}
 use Prim.Native.Nat.{ℕ, zero, suc, _+_, _-_, _/_, _%_, _^_, _<_}
 use native.Mathlib.Nat.{mod-lt, mod-one, zero-div}

@@ -1,16 +1,15 @@
 -- The laws of blocks under ⊕ and •: a commutative ring with unit, in which every element added to itself is nothing.
 -- Only the laws that give a block back ask that it be small, since `value` reads a word by its 64 bits.
 -- Rests on Xor, Product and Values.
--- Assumes nothing.
 use mathlib.Core.Path.{_≡_, sym, ap, ap₂, _∙_}
 use Prim.Native.Nat.{ℕ, _^_, _<_}
 use Rattle.field.specs.declared.blocks.Block.{Block}
 use Rattle.field.specs.Elements.{xor, times}
-use Rattle.field.specs.Blocks.{value, block, Small, nil, one, _⊕_, _•_}
-use Rattle.field.proofs.Commutative.{left-comm, swap}
+use Rattle.field.specs.Blocks.{value, block, Small, zeroBlock, one, _⊕_, _•_}
+use Rattle.field.proofs.Commutative.{swap}
 use Rattle.field.proofs.Xor as x
 use Rattle.field.proofs.Product as p
-use Rattle.field.proofs.Values.{value-lt, value-block, block-value, small-block, value-nil, value-one}
+use Rattle.field.proofs.Values.{value-lt, value-block, block-value, small-block, value-zero, value-one}
 
 -- sums and products as numbers, and numbers' sums and products as blocks
 
@@ -50,26 +49,23 @@ pub ⊕-assoc : (a b c : Block) → a ⊕ b ⊕ c ≡ a ⊕ (b ⊕ c)
     numbers : xor (value (a ⊕ b)) (value c) ≡ xor (value a) (value (b ⊕ c))
     numbers = simp value-⊕ (x.xor-assoc _ _ _)
 
-pub ⊕-self : (a : Block) → a ⊕ a ≡ nil
-unfolding _⊕_ nil
+pub ⊕-self : (a : Block) → a ⊕ a ≡ zeroBlock
+unfolding _⊕_ zeroBlock
 ⊕-self a = ap block (x.xor-self _)
 
-pub nil-⊕ : (a : Block) → Small a → nil ⊕ a ≡ a
+pub zero-⊕ : (a : Block) → Small a → zeroBlock ⊕ a ≡ a
 unfolding _⊕_
-nil-⊕ a s = ap block (ap (λ (v : ℕ). xor v (value a)) value-nil ∙ x.xor-zero-l _) ∙ block-value a s
+zero-⊕ a s = ap block (ap (λ (v : ℕ). xor v (value a)) value-zero ∙ x.xor-zero-l _) ∙ block-value a s
 
-pub ⊕-nil : (a : Block) → Small a → a ⊕ nil ≡ a
-⊕-nil a s = ⊕-comm a nil ∙ nil-⊕ a s
-
-pub ⊕-left-comm : (a b c : Block) → a ⊕ (b ⊕ c) ≡ b ⊕ (a ⊕ c)
-⊕-left-comm = left-comm _⊕_ ⊕-assoc ⊕-comm
+pub ⊕-zero : (a : Block) → Small a → a ⊕ zeroBlock ≡ a
+⊕-zero a s = ⊕-comm a zeroBlock ∙ zero-⊕ a s
 
 pub ⊕-swap : (a b c d : Block) → a ⊕ b ⊕ (c ⊕ d) ≡ a ⊕ c ⊕ (b ⊕ d)
 ⊕-swap = swap _⊕_ ⊕-assoc ⊕-comm
 
 -- what is added twice is gone
 pub ⊕-cancel : (a b : Block) → Small b → a ⊕ (a ⊕ b) ≡ b
-⊕-cancel a b s = sym (⊕-assoc a a b) ∙ ap (λ (c : Block). c ⊕ b) (⊕-self a) ∙ nil-⊕ b s
+⊕-cancel a b s = sym (⊕-assoc a a b) ∙ ap (λ (c : Block). c ⊕ b) (⊕-self a) ∙ zero-⊕ b s
 
 -- the product
 
@@ -99,11 +95,11 @@ pub ⊕-• : (a b c : Block) → (a ⊕ b) • c ≡ a • c ⊕ b • c
 
 -- nothing and one
 
-pub •-nil : (a : Block) → a • nil ≡ nil
-•-nil a = unfold _•_ nil in ap block (ap (times (value a)) value-nil ∙ p.times-zero-r _)
+pub •-zero : (a : Block) → a • zeroBlock ≡ zeroBlock
+•-zero a = unfold _•_ zeroBlock in ap block (ap (times (value a)) value-zero ∙ p.times-zero-r _)
 
-pub nil-• : (a : Block) → nil • a ≡ nil
-nil-• a = •-comm nil a ∙ •-nil a
+pub zero-• : (a : Block) → zeroBlock • a ≡ zeroBlock
+zero-• a = •-comm zeroBlock a ∙ •-zero a
 
 pub one-• : (a : Block) → Small a → one • a ≡ a
 one-• a s = unfold _•_ in ap block (ap (λ (v : ℕ). times v (value a)) value-one ∙ p.times-one-l _) ∙ block-value a s

@@ -1,6 +1,5 @@
 -- The loops of seek and of the companion: what holds after each turn, and that it ends in the power asked for. It rests on the
 -- laws of powers (`Powers`) and of seek's steps (`Steps`).
--- Assumes nothing.
 use mathlib.Core.Path.{_≡_, refl, sym, ap, ap₂, _∙_}
 use Prim.Native.Nat.{ℕ, suc, _+_, _-_, _*_, _/_, _%_, _^_, _≤_, _<_}
 use native.Mathlib.Nat.{add-zero}
@@ -8,10 +7,11 @@ use native.Mathlib.Numerals.{add-one}
 use native.Mathlib.Omega.{arith}
 use lib.Pow.{pow-pos}
 use Rattle.field.specs.declared.blocks.Block.{Block}
+use Rattle.field.specs.declared.multiplying.Count.{Count}
 use Rattle.field.specs.declared.multiplying.Counted.{Counted}
 use Rattle.field.specs.Blocks.{_•_, one, Small}
 use Rattle.field.specs.Powers.{power, companion, steps}
-use Rattle.field.specs.Counts.{counted, sought}
+use Rattle.field.specs.Contracts.{counted, sought}
 use Rattle.field.proofs.Ring.{•-assoc, •-one, one-•}
 use Rattle.field.proofs.Powers.{small-power, power-one, power-add, power-square}
 use Rattle.field.proofs.Steps.{steps-half, steps-le, steps-bit}
@@ -32,16 +32,16 @@ times-bit-one y x n d s e f = f ∙ rw (e, power-one x s)
 
 -- what holds before each turn: y times x to what is left of the exponent is the power, and the running count with the steps left
 -- is the last count
-pub record Seeking (base : Block) (k count : ℕ) (y x : Block) (left n : ℕ) : Type 0 where
+pub record Seeking (base : Block) (k : ℕ) (count : Count) (y x : Block) (left : ℕ) (n : Count) : Type 0 where
   pub power-is : y • power x left ≡ power base k
-  pub count-is : n + steps left ≡ count + steps k
+  pub count-is : n .raised + steps left ≡ count .raised + steps k
 
-pub seeking-start : (base : Block) (k count : ℕ) → Seeking base k count one base k count
+pub seeking-start : (base : Block) (k : ℕ) (count : Count) → Seeking base k count one base k count
 seeking-start base k count = record { power-is = one-• (power base k) (small-power base k); count-is = refl }
 
-module _ {base : Block} {k count : ℕ} {y x : Block} {left n : ℕ} (s : Seeking base k count y x left n) where
+module _ {base : Block} {k : ℕ} {count : Count} {y x : Block} {left : ℕ} {n : Count} (s : Seeking base k count y x left n) where
   -- one turn: p holds y, and q holds x, after it
-  pub seeking-next : {p q : Counted} → 1 < left → p ≡ counted (y • power x (left % 2)) (n + left % 2) → q ≡ counted (x • x) (p .count + 1)
+  pub seeking-next : {p q : Counted} → 1 < left → p ≡ counted (y • power x (left % 2)) (n .raised + left % 2) → q ≡ counted (x • x) (p .count .raised + 1)
       → Seeking base k count (p .value) (q .value) (left / 2) (q .count)
   seeking-next {p} {q} l e f =
       let d = left % 2 in
@@ -54,25 +54,25 @@ module _ {base : Block} {k count : ℕ} {y x : Block} {left n : ℕ} (s : Seekin
             ∙ •-assoc y (power x d) (power x (2 * h))
             ∙ ap (λ (a : Block). y • a) (sym (power-add x d (2 * h)) ∙ ap (power x) whole)
             ∙ s .power-is;
-        count-is = omega (arith, ap (λ (a : Counted). a .count) e, ap (λ (a : Counted). a .count) f, steps-half left (omega arith));
+        count-is = omega (arith, ap (λ (a : Counted). a .count .raised) e, ap (λ (a : Counted). a .count .raised) f, steps-half left (omega arith));
       }
 
   -- the running count has room for each product of a turn
-  pub seeking-room : k < 2 ^ 64 → count + 128 < 2 ^ 64 → n < 2 ^ 64 - 1
+  pub seeking-room : k < 2 ^ 64 → count .raised + 128 < 2 ^ 64 → n .raised < 2 ^ 64 - 1
   seeking-room h l = omega (arith, s .count-is, steps-le k h)
 
-  pub seeking-room-2 : k < 2 ^ 64 → count + 128 < 2 ^ 64 → 1 < left → n + left % 2 < 2 ^ 64 - 1
+  pub seeking-room-2 : k < 2 ^ 64 → count .raised + 128 < 2 ^ 64 → 1 < left → n .raised + left % 2 < 2 ^ 64 - 1
   seeking-room-2 h l m = omega (arith, s .count-is, steps-le k h, steps-half left (omega arith))
 
   -- the last bit
-  pub seeking-done : {p : Counted} {t : ℕ} → left ≤ 1 → p ≡ counted (y • power x left) (n + left) → t ≡ steps k
-      → sought (p .value) t (p .count) ≡ sought (power base k) (steps k) (count + steps k)
+  pub seeking-done : {p : Counted} {t : ℕ} → left ≤ 1 → p ≡ counted (y • power x left) (n .raised + left) → t ≡ steps k
+      → sought (p .value) t (p .count .raised) ≡ sought (power base k) (steps k) (count .raised + steps k)
   seeking-done {p} {t} l e f =
-      let c : n + left ≡ count + steps k = omega (arith, s .count-is, steps-bit left l) in
+      let c : n .raised + left ≡ count .raised + steps k = omega (arith, s .count-is, steps-bit left l) in
       rw f
       (ap₂ (λ (a : Block) (m : ℕ). sought a (steps k) m)
       (ap (λ (a : Counted). a .value) e ∙ s .power-is)
-      (ap (λ (a : Counted). a .count) e ∙ c))
+      (ap (λ (a : Counted). a .count .raised) e ∙ c))
 
 -- ---- the companion
 

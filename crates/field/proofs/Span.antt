@@ -1,7 +1,6 @@
 -- Two ways to show a fact of every number below 2 ^ 128 that holds of 0 and of sums: from the powers of two (`basis`),
 -- or from the field's one and one step of multiplication by x (`span`). And the laws of that step, `shifted`.
 -- Rests on Xor.
--- Assumes nothing.
 use mathlib.Core.Path.{_≡_, refl, subst}
 use Prim.Native.Nat.{ℕ, zero, suc, _+_, _-_, _*_, _/_, _%_, _^_, _<_}
 use native.Mathlib.Nat.{mod-lt, le-refl, lt-of-le-of-lt, div-le-self, zero-mul, one-mul, pow-suc, mul-mod-left, mul-div-cancel, zero-lt-suc}

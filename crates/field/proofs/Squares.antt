@@ -2,7 +2,6 @@
 -- of its bits, and what lies past the 128th bit is folded back. It equals the product of the number with itself (`square-times`),
 -- and x, squared 128 times over, is x again (`squares-x`).
 -- Rests on Product, and on two computed tests: the squares of the 128 powers of two, and those 128 squarings.
--- Assumes nothing.
 use mathlib.Core.Path.{_≡_, sym, ap, ap₂, _∙_}
 use mathlib.Core.Bool.{Bool}
 use Prim.Native.Nat.{ℕ, zero, suc, _+_, _*_, _/_, _%_, _^_, _<_}
@@ -11,7 +10,7 @@ use lib.Pow.{pow-pos, pow-lt}
 use lib.Dec.{T, eqb, eqb→eq}
 use Rattle.field.specs.Elements.{xor, only, R, shifted, times}
 use Rattle.field.proofs.Xor.{xor-self, xor-zero-l, xor-half, xor-odd, xor-shr, xor-mod, xor-shl, xor-split, xor-lt, xors}
-use Rattle.field.proofs.Tests.{every, every-at}
+use Rattle.field.proofs.ComputedTests.{every, every-at}
 use Rattle.field.proofs.Span.{basis}
 use Rattle.field.proofs.Recursion.{mul, times-mul}
 use Rattle.field.proofs.Product.{times-comm, times-xor-l, times-xor-r, times-zero-r, times-lt}

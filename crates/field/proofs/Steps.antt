@@ -1,6 +1,5 @@
 -- Laws of a number's width and of seek's steps, by halving the number: how code counts them, and the bound on the steps.
 -- They rest on the library's counts of binary digits (`lib.Count`).
--- Assumes nothing.
 use mathlib.Core.Path.{_≡_, refl, ap}
 use mathlib.Core.Logic.{_⊎_, inl, inr}
 use Prim.Native.Nat.{ℕ, zero, suc, _+_, _-_, _*_, _/_, _%_, _^_, _≤_, _<_, zero-le}

@@ -1,24 +1,23 @@
 -- A file read piece by piece: a stream that takes its chunks one after another, all but the last of whole blocks, holds the sum of
 -- the bytes taken, and finished it gives the hash of the whole. It rests on the sum of joined lists (`Sums`) and on GHASH with no
 -- C (`Hash`).
--- Assumes nothing.
 use mathlib.Core.Path.{_≡_, refl, sym, ap, _∙_}
 use mathlib.Core.List.{List, [], _++_, append-nil, append-assoc}
-use Prim.Native.Nat.{ℕ, _+_, _*_, _^_, _≤_}
-use native.Mathlib.Nat.{add-zero}
+use Prim.Native.Nat.{ℕ, _+_, _*_, _≤_}
 use native.Mathlib.Omega.{arith}
 use lib.ListN.{length, length-append}
 use Rattle.field.specs.declared.blocks.Block.{Block}
 use Rattle.field.specs.declared.streaming.Stream.{Stream}
-use Rattle.field.specs.Blocks.{_⊕_, _•_, nil, block}
+use Rattle.field.specs.Blocks.{zeroBlock}
 use Rattle.field.specs.Ghash.{ghash}
-use Rattle.field.specs.Answers.{limit}
-use Rattle.field.specs.Streams.{streamed, absorbed, absorbedAll, finished, joined, Whole, none, last, more}
+use Rattle.field.specs.Answers.{maxBytes}
+use Rattle.field.specs.Contracts.{streamed, absorbed}
+use Rattle.field.specs.Streams.{absorbedAll, finished, joined, Whole, none, last, more}
 use Rattle.field.proofs.Sums.{sum-append, sum-zeros}
 use Rattle.field.proofs.Hash.{ghash-empty}
 
 -- code's start: the zero block is the sum of nothing
-pub streamed-start : (h : Block) → _≡_ {A = Stream} (record { h = h; y = nil; n = 0 }) (streamed h [])
+pub streamed-start : (h : Block) → _≡_ {A = Stream} (record { h = h; y = zeroBlock; n = 0 }) (streamed h [])
 unfolding streamed
 streamed-start h = λ i. record { h = h; y = sym (sum-zeros h 0) i; n = 0 }
 
@@ -27,14 +26,8 @@ pub streamed-more : (h : Block) (s t : List ℕ) (j : ℕ) → length s ≡ 16 *
 unfolding streamed absorbed
 streamed-more h s t j e = λ i. record { h = h; y = sym (sum-append h s t j e) i; n = sym (length-append s t) i }
 
--- code's end: x is the block of the two lengths, the second 0, z its sum with y, and r the last product
-pub finished-words : (t : Stream) {x z r : Block} → x ≡ block (8 * t .n * 2 ^ 64 + 0) → z ≡ t .y ⊕ x → r ≡ z • t .h → r ≡ finished t
-unfolding finished
-finished-words t ex ez er =
-    er ∙ ap (λ (b : Block). b • t .h) (ez ∙ ap (λ (b : Block). t .y ⊕ b) (ex ∙ ap block (add-zero (8 * t .n * 2 ^ 64))))
-
 -- the end gives the hash of all the bytes
-pub streamed-ghash : (h : Block) (s : List ℕ) → length s ≤ limit → finished (streamed h s) ≡ ghash h s []
+pub streamed-ghash : (h : Block) (s : List ℕ) → length s ≤ maxBytes → finished (streamed h s) ≡ ghash h s []
 unfolding streamed finished
 streamed-ghash h s l = sym (ghash-empty h s l)
 
@@ -50,7 +43,7 @@ streamed-all h s j e (more k {t} {r} f w) =
     ∙ ap (streamed h) (append-assoc s t (joined r))
 
 -- from nothing, and then the end: the hash of the whole
-pub stream-ghash : (h : Block) {r : List (List ℕ)} → Whole r → length (joined r) ≤ limit
+pub stream-ghash : (h : Block) {r : List (List ℕ)} → Whole r → length (joined r) ≤ maxBytes
     → finished (absorbedAll (streamed h []) r) ≡ ghash h (joined r) []
 stream-ghash h {r} w l = ap finished (streamed-all h [] 0 refl w) ∙ streamed-ghash h (joined r) l
 
@@ -58,7 +51,3 @@ stream-ghash h {r} w l = ap finished (streamed-all h [] 0 refl w) ∙ streamed-g
 pub streamed-count : (h : Block) (s : List ℕ) → streamed h s .n ≡ length s
 unfolding streamed
 streamed-count h s = refl
-
-pub absorbed-count : (t : Stream) (s : List ℕ) → absorbed t s .n ≡ t .n + length s
-unfolding absorbed
-absorbed-count t s = refl

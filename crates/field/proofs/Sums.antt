@@ -1,7 +1,6 @@
 -- The laws of the sum that carry every edit: it is linear, zero bytes in front of a list leave it as it is, zero bytes behind
 -- multiply it by a power of H, and it is a multiple of H, so that H's companion divides it. Each follows from the same of Y
 -- (`Horner`).
--- Assumes nothing.
 use mathlib.Core.Path.{_≡_, sym, ap, ap₂, _∙_}
 use mathlib.Core.List.{List, _++_, append-assoc}
 use Prim.Native.Nat.{ℕ, _+_, _-_, _*_}
@@ -9,15 +8,16 @@ use native.Mathlib.Nat.{le-add-right, add-sub-of-le}
 use lib.ListN.{length, replicate, length-append, length-replicate, replicate-append-replicate}
 use Rattle.field.specs.declared.blocks.Block.{Block}
 use Rattle.field.specs.Bytes.{xorBytes}
-use Rattle.field.specs.Blocks.{_⊕_, _•_, nil, Small}
+use Rattle.field.specs.Blocks.{_⊕_, _•_, zeroBlock, Small}
 use Rattle.field.specs.Powers.{power, companion}
 use Rattle.field.specs.Sums.{blocks, sum}
 use Rattle.field.specs.Ghash.{Yᵢ}
-use Rattle.field.proofs.Values.{small-nil}
+use Rattle.field.proofs.Values.{small-zero}
 use Rattle.field.proofs.Ring.{⊕-self, •-assoc}
 use Rattle.field.proofs.Frobenius.{companion-power}
 use Rattle.field.proofs.XorBytes.{length-xor}
-use Rattle.field.proofs.Horner.{le-blocks, blocks-mono, Yᵢ-append-all, Yᵢ-padded, Yᵢ-past, Yᵢ-zeros, Yᵢ-linear, Yᵢ-multiple}
+use Rattle.field.proofs.BlockCounts.{le-blocks, blocks-mono}
+use Rattle.field.proofs.Horner.{Yᵢ-append-all, Yᵢ-padded, Yᵢ-past, Yᵢ-zeros, Yᵢ-linear, Yᵢ-multiple}
 use Rattle.field.proofs.Horner.{small-terms, Yᵢ-terms, horner}
 
 pub small-sum : (h : Block) (s : List ℕ) → Small (sum h s)
@@ -28,9 +28,9 @@ small-sum h s = small-terms h s (blocks (length s)) (blocks (length s))
 pub sum-linear : (h : Block) (s t : List ℕ) → length s ≡ length t → sum h (xorBytes s t) ≡ sum h s ⊕ sum h t
 sum-linear h s t e =
     sym (horner h (xorBytes s t))
-    ∙ ap₂ (λ (y : Block) (n : ℕ). Yᵢ h y (xorBytes s t) (blocks n)) (sym (⊕-self nil)) (length-xor s t e)
-    ∙ Yᵢ-linear h nil nil s t (blocks (length s))
-    ∙ ap₂ _⊕_ (horner h s) (ap (λ (n : ℕ). Yᵢ h nil t (blocks n)) e ∙ horner h t)
+    ∙ ap₂ (λ (y : Block) (n : ℕ). Yᵢ h y (xorBytes s t) (blocks n)) (sym (⊕-self zeroBlock)) (length-xor s t e)
+    ∙ Yᵢ-linear h zeroBlock zeroBlock s t (blocks (length s))
+    ∙ ap₂ _⊕_ (horner h s) (ap (λ (n : ℕ). Yᵢ h zeroBlock t (blocks n)) e ∙ horner h t)
 
 -- *trailing zeros*: zero bytes behind a list multiply its sum by H once for each block that they add
 pub sum-trailing : (h : Block) (s : List ℕ) (r : ℕ)
@@ -40,16 +40,16 @@ sum-trailing h s r =
     let n = blocks (length s + r) in
     let l : length (s ++ replicate r 0) ≡ length s + r = rw (length-append, length-replicate) in
     sym (horner h (s ++ replicate r 0))
-    ∙ ap (λ (x : ℕ). Yᵢ h nil (s ++ replicate r 0) (blocks x)) l
-    ∙ Yᵢ-padded h nil s r n
-    ∙ ap (Yᵢ h nil s) (sym (add-sub-of-le (blocks-mono (le-add-right (length s) r))))
-    ∙ Yᵢ-past h nil s m (n - m) small-nil (le-blocks (length s))
+    ∙ ap (λ (x : ℕ). Yᵢ h zeroBlock (s ++ replicate r 0) (blocks x)) l
+    ∙ Yᵢ-padded h zeroBlock s r n
+    ∙ ap (Yᵢ h zeroBlock s) (sym (add-sub-of-le (blocks-mono (le-add-right (length s) r))))
+    ∙ Yᵢ-past h zeroBlock s m (n - m) small-zero (le-blocks (length s))
     ∙ ap (λ (a : Block). a • power h (n - m)) (horner h s)
 
 -- whole blocks and what follows them: the sum goes on from the sum of those blocks
 pub sum-append : (h : Block) (s t : List ℕ) (j : ℕ) → length s ≡ 16 * j → sum h (s ++ t) ≡ Yᵢ h (sum h s) t (blocks (length t))
 sum-append h s t j e =
-    sym (horner h (s ++ t)) ∙ Yᵢ-append-all h nil s t j e ∙ ap (λ (y : Block). Yᵢ h y t (blocks (length t))) (horner h s)
+    sym (horner h (s ++ t)) ∙ Yᵢ-append-all h zeroBlock s t j e ∙ ap (λ (y : Block). Yᵢ h y t (blocks (length t))) (horner h s)
 
 -- so the first blocks' sum is multiplied by a power, and the sum of what follows is added
 pub sum-append-power : (h : Block) (s t : List ℕ) (j : ℕ) → length s ≡ 16 * j
@@ -58,7 +58,7 @@ unfolding sum
 sum-append-power h s t j e = sum-append h s t j e ∙ Yᵢ-terms h (sum h s) t (blocks (length t)) (small-sum h s)
 
 -- zero bytes alone give nothing, and so does the empty list (n = 0)
-pub sum-zeros : (h : Block) (n : ℕ) → sum h (replicate n 0) ≡ nil
+pub sum-zeros : (h : Block) (n : ℕ) → sum h (replicate n 0) ≡ zeroBlock
 sum-zeros h n = sym (horner h (replicate n 0)) ∙ Yᵢ-zeros h n (blocks (length {A = ℕ} (replicate n 0)))
 
 -- *leading zeros*: zero blocks in front of a list leave its sum as it is

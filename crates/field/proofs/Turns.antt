@@ -1,6 +1,5 @@
 -- The turns of the product's loop: after i turns its z and v have the values Z_i and V_i of Algorithm 1, and after 128 z is the
 -- product. It rests on the laws of a block's value (`Values`).
--- Assumes nothing.
 use mathlib.Core.Path.{_≡_, refl, sym, ap, ap₂, _∙_}
 use Prim.Native.Nat.{ℕ, _+_, _≤_, _<_}
 use native.Mathlib.Numerals.{add-one}

@@ -1,5 +1,5 @@
 -- Blocks and their numbers: the block with two words, `value` and `block` undo each other, and what is small.
--- Rests on lib.Pow's digits. Assumes nothing.
+-- Rests on lib.Pow's digits.
 use mathlib.Core.Path.{_≡_, sym, ap, ap₂, _∙_}
 use Prim.Native.Nat.{ℕ, _+_, _*_, _^_, _<_}
 use native.Mathlib.Nat.{mod-lt, mod-mod, mod-eq-of-lt}
@@ -7,7 +7,7 @@ use lib.Arith.{digits-lt}
 use lib.Pow.{pow-pos, shr-lt, high, low, recompose}
 use lib.Dec.{lit<}
 use Rattle.field.specs.declared.blocks.Block.{Block}
-use Rattle.field.specs.Blocks.{value, block, Small, nil, one}
+use Rattle.field.specs.Blocks.{value, block, Small, zeroBlock, one}
 
 -- the block with these words
 abbrev pub words : ℕ → ℕ → Block
@@ -40,21 +40,21 @@ pub small-block : (v : ℕ) → v < 2 ^ 128 → Small (block v)
 unfolding block
 small-block v h = record { hi = shr-lt 64 64 h; lo = mod-lt v (pow-pos 64) }
 
-pub small-nil : Small nil
-unfolding nil
-small-nil = small-block 0 (pow-pos 128)
+pub small-zero : Small zeroBlock
+unfolding zeroBlock
+small-zero = small-block 0 (pow-pos 128)
 
 pub small-one : Small one
 unfolding one
 small-one = small-block (2 ^ 127) (lit< tt)
 
-pub value-nil : value nil ≡ 0
-unfolding nil
-value-nil = value-block 0 (pow-pos 128)
+pub value-zero : value zeroBlock ≡ 0
+unfolding zeroBlock
+value-zero = value-block 0 (pow-pos 128)
 
 -- the zero block's words, as code writes them
-pub nil-words : words 0 0 ≡ nil
-nil-words = block-words 0 0 (pow-pos 64) ∙ ap block (sym value-nil) ∙ block-value nil small-nil
+pub zero-words : words 0 0 ≡ zeroBlock
+zero-words = block-words 0 0 (pow-pos 64) ∙ ap block (sym value-zero) ∙ block-value zeroBlock small-zero
 
 pub value-one : value one ≡ 2 ^ 127
 unfolding one

@@ -1,7 +1,6 @@
 -- Blocks as code works on them, word by word: the sum of two blocks, a block under a mask, a bit of a block, and one step of V.
 -- Each law says that the words computed so have the value that Algorithm 1 asks for. They rest on the laws of blocks (`Values`,
 -- `Ring`), of exclusive or (`Xor`) and on the library's laws of bits (`lib.Bits`, `lib.Pow`).
--- Assumes nothing.
 use mathlib.Core.Path.{_≡_, refl, sym, ap, ap₂, _∙_}
 use Prim.Native.Nat.{ℕ, zero, suc, _+_, _-_, _*_, _/_, _%_, _^_, _≤_, _<_}
 use native.Mathlib.Nat.{mod-lt, mod-eq-of-lt, mul-mod-left, div-add-mod', add-zero, lt-of-le-of-lt, mul-le-mul-left, not-suc-le-zero}

@@ -1,6 +1,5 @@
 -- Exclusive or of numbers: its laws as an addition, how it goes with halves, shifts and digits, and the choice `only`.
 -- Rests on lib.Bits, where the same is shown of the digits; from here on nothing looks at the digits of an exclusive or.
--- Assumes nothing.
 use mathlib.Core.Path.{_≡_, refl, sym, ap, ap₂, _∙_}
 use Prim.Native.Nat.{ℕ, zero, suc, _+_, _*_, _/_, _%_, _^_, _<_}
 use native.Mathlib.Nat.{mod-lt, add-zero, zero-lt-suc, not-suc-le-zero, le-of-suc-le-suc}

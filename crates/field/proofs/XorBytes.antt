@@ -1,6 +1,5 @@
 -- Laws of byte lists added byte by byte: at each place, as an addition, joined and padded lists, and the number that a sum stands
 -- for. They ask no bound of a list's elements. They rest on the laws of exclusive or (`Xor`).
--- Assumes nothing.
 use mathlib.Core.Path.{_≡_, refl, sym, ap, ap₂, _∙_}
 use mathlib.Core.List.{List, [], _∷_, _++_}
 use Prim.Native.Nat.{ℕ, zero, suc, _+_, _*_, _%_, _≤_, max}

@@ -1,5 +1,4 @@
 -- Blocks: what a pair of words stands for, sum, product, and the blocks of a byte list (document 01, "Field"; SP 800-38D, 6.3).
--- Assumes nothing.
 use mathlib.Core.List.{List}
 use Prim.Native.Nat.{ℕ, _+_, _*_, _/_, _%_, _^_, _<_}
 use Rattle.field.specs.declared.blocks.Block.{Block}
@@ -30,8 +29,8 @@ unfoldable pub _•_ : Block → Block → Block
 _•_ a b = block (times (value a) (value b))
 
 -- the block of zero bits, 0^128 (SP 800-38D, 4.2.2)
-unfoldable pub nil : Block
-nil = block 0
+unfoldable pub zeroBlock : Block
+zeroBlock = block 0
 
 -- the field's one: byte 80 (hexadecimal) followed by fifteen zero bytes (document 01, "Field")
 unfoldable pub one : Block

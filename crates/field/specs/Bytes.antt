@@ -1,5 +1,4 @@
 -- Numbers as big-endian bytes, most significant first, and back (SP 800-38D, 4.2.2: [x]_s and int(X), here for whole bytes).
--- Assumes nothing.
 use mathlib.Core.List.{List, [], _∷_, _++_}
 use Prim.Native.Nat.{ℕ, zero, suc, _+_, _*_, _/_, _%_}
 use lib.ListN.{getD}

@@ -1,6 +1,5 @@
 -- The product of two blocks, as Algorithm 1 of NIST SP 800-38D (section 6.3) has it.
 -- A block's 128 bits are read as a number below 2 ^ 128, the leftmost bit of weight 2 ^ 127; that bit is the coefficient of x^0.
--- Assumes nothing.
 use Prim.Native.Nat.{ℕ, zero, suc, _-_, _*_, _/_, _%_, _^_}
 use lib.Bits.{bitXor}
 

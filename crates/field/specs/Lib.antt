@@ -5,8 +5,8 @@ pub mod Blocks
 pub mod Powers
 pub mod Sums
 pub mod Ghash
-pub mod Counts
+pub mod Contracts
 pub mod Streams
 pub mod Answers
-pub mod Cases
+pub mod FieldBench
 pub mod Field

@@ -1,5 +1,4 @@
 -- Powers, the companion I, and what seek counts (document 01, "Field").
--- Assumes nothing.
 use Prim.Native.Nat.{ℕ, zero, suc, _+_, _-_, _/_, _^_}
 use lib.Count.{ones}
 use Rattle.field.specs.declared.blocks.Block.{Block}

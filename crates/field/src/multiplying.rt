@@ -5,7 +5,7 @@ ghost use mathlib.Core.Path.{_≡_};
 ghost use Prim.Native.Nat.{_+_, _-_, _*_, _^_, _<_, _≤_};
 ghost use Rattle.field.specs.Elements.{xor, only, bit};
 ghost use Rattle.field.specs.Blocks.{value, _•_};
-ghost use Rattle.field.specs.Counts.{counted};
+ghost use Rattle.field.specs.Contracts.{counted};
 
 // The left word of R, 11100001 followed by 120 zeros; its right word is zero.
 const R_HI: u64 = 0xe100_0000_0000_0000;
@@ -53,8 +53,9 @@ fn added_where(bit: u64, v: Block, z: Block) -> Block
     }
 }
 
-// The product of two blocks: after i turns z is Z_i and v is V_i of Algorithm 1. It serves the layers above.
-pub fn product(a: Block, b: Block) -> Block
+// The product of two blocks: after i turns z is Z_i and v is V_i of Algorithm 1. It is private: the one product that is in reach
+// of another file is the counted one.
+fn product(a: Block, b: Block) -> Block
     ensures { λ r. ⌜ r ≡ a • b ⌝ }
 {
     let mut z = Block::ZERO;
@@ -68,20 +69,43 @@ pub fn product(a: Block, b: Block) -> Block
     z
 }
 
-// A product, and the number of counted products so far.
-pub struct Counted {
-    pub value: Block,
-    pub count: u64,
+// A number of counted products. Its field is private, so that outside this file a count can only be begun at none, be raised by the
+// counted product and be read: no count comes about in another way.
+pub struct Count {
+    raised: u64,
 }
 
-// The counted product, as document 01 coins the term: the product of two blocks, and one more in the count, which the caller
-// keeps small enough to fit. It serves the layers above.
-pub fn counted_product(a: Block, b: Block, count: u64) -> Counted
-    requires { ⌜ count < 2 ^ 64 - 1 ⌝ }
-    ensures { λ r. ⌜ r ≡ counted (a • b) (count + 1) ⌝ }
+impl Count {
+    // No product yet. It serves the layers above.
+    pub fn none() -> Count
+        ensures { λ r. ⌜ r .raised ≡ 0 ⌝ }
+    {
+        Count { raised: 0 }
+    }
+
+    // How many products were counted. It serves the layers above.
+    pub fn number(self) -> u64
+        ensures { λ r. ⌜ r ≡ self .raised ⌝ }
+    {
+        self.raised
+    }
+}
+
+// A product, and the running count with it counted.
+pub struct Counted {
+    pub value: Block,
+    pub count: Count,
+}
+
+// The counted product, as document 01 coins the term: the product of two blocks, and one more in the running count, which the
+// caller keeps small enough to fit. Who needs no count begins one for the call and drops it. It serves the layers above.
+pub fn counted_product(a: Block, b: Block, count: Count) -> Counted
+    requires { ⌜ count .raised < 2 ^ 64 - 1 ⌝ }
+    ensures { λ r. ⌜ r ≡ counted (a • b) (count .raised + 1) ⌝ }
 {
+    let raised = count.raised + 1;
     Counted {
         value: product(a, b),
-        count: count + 1,
+        count: Count { raised },
     }
 }

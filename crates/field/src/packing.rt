@@ -20,15 +20,15 @@ fn byte_at(lead: usize, s: &[u8], v: usize) -> u8
     s[i]
 }
 
-// The number of the count bytes from place at of lead zero bytes followed by s. It serves the layers above, which read words so.
+// The number of the size bytes from place at of lead zero bytes followed by s. It serves the layers above, which read words so.
 // The requires: eight bytes fill the word, and no place that is read may pass the largest index.
-pub fn number_at(lead: usize, s: &[u8], at: usize, count: usize) -> u64
-    requires { ⌜ (count ≤ 8) × (at + count < 2 ^ 64) ⌝ }
-    ensures { λ r. ⌜ r ≡ number (replicate lead 0 ++ now (s .entry)) at count ⌝ }
+pub fn number_at(lead: usize, s: &[u8], at: usize, size: usize) -> u64
+    requires { ⌜ (size ≤ 8) × (at + size < 2 ^ 64) ⌝ }
+    ensures { λ r. ⌜ r ≡ number (replicate lead 0 ++ now (s .entry)) at size ⌝ }
 {
     let mut n: u64 = 0;
     let mut k: usize = 0;
-    while k < count {
+    while k < size {
         let b = byte_at(lead, s, at + k);
         n = n * 256 + b as u64;
         k += 1;
@@ -36,14 +36,14 @@ pub fn number_at(lead: usize, s: &[u8], at: usize, count: usize) -> u64
     n
 }
 
-// Writes the count bytes of v from place at on, the last first. It serves the layers above, which write words so.
+// Writes the size bytes of v from place at on, the last first. It serves the layers above, which write words so.
 // The requires: the bytes have room in out.
-pub fn store(out: &mut [u8], at: usize, count: usize, v: u64)
-    requires { ⌜ at + count ≤ length (now out) ⌝ }
-    ensures { λ _. ⌜ now (out .exit) ≡ sets (now (out .entry)) at (bytes count v) ⌝ }
+pub fn store(out: &mut [u8], at: usize, size: usize, v: u64)
+    requires { ⌜ at + size ≤ length (now out) ⌝ }
+    ensures { λ _. ⌜ now (out .exit) ≡ sets (now (out .entry)) at (bytes size v) ⌝ }
 {
     let mut rest = v;
-    let mut k = count;
+    let mut k = size;
     while 0 < k {
         k -= 1;
         out[at + k] = (rest % 256) as u8;

@@ -1,13 +1,14 @@
 // GHASH of one byte list that comes in chunks, none of which is kept. Every chunk but the last is whole blocks.
 use super::blocks::Block;
-use super::multiplying::product;
+use super::hashing::closed;
 use super::summing::run;
 ghost use mathlib.Core.Path.{_≡_};
 ghost use mathlib.Core.List.{[]};
 ghost use Prim.Native.Nat.{_+_, _≤_};
 ghost use lib.ListN.{length};
-ghost use Rattle.field.specs.Answers.{limit};
-ghost use Rattle.field.specs.Streams.{streamed, absorbed, finished};
+ghost use Rattle.field.specs.Answers.{maxBytes};
+ghost use Rattle.field.specs.Contracts.{streamed, absorbed};
+ghost use Rattle.field.specs.Streams.{finished};
 
 // The key, the sum of the bytes taken so far, and how many they are.
 pub struct Stream {
@@ -31,7 +32,7 @@ impl Stream {
     // One chunk more. It serves the layers above. The requires: the count of bytes has room, so that their bits fit a word at the
     // end.
     pub fn absorb(self, chunk: &[u8]) -> Stream
-        requires { ⌜ self .n + length (now chunk) ≤ limit ⌝ }
+        requires { ⌜ self .n + length (now chunk) ≤ maxBytes ⌝ }
         ensures { λ r. ⌜ r ≡ absorbed self (now (chunk .entry)) ⌝ }
     {
         let h = self.h;
@@ -42,11 +43,11 @@ impl Stream {
 
     // The hash of all the bytes taken. It serves the layers above. The requires: the number of their bits fits a word.
     pub fn finish(self) -> Block
-        requires { ⌜ self .n ≤ limit ⌝ }
+        requires { ⌜ self .n ≤ maxBytes ⌝ }
         ensures { λ r. ⌜ r ≡ finished self ⌝ }
     {
-        let lengths = Block::from_words(8 * self.n, 0);
+        let h = self.h;
         let y = self.y;
-        product(y.plus(lengths), self.h)
+        closed(h, y, self.n, 0)
     }
 }

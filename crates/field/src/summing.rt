@@ -1,5 +1,6 @@
 // Sums over a byte list's blocks by Horner's rule, where the bytes lie.
 use super::blocks::Block;
+use super::multiplying::Count;
 use super::multiplying::Counted;
 use super::multiplying::counted_product;
 ghost use mathlib.Core.Path.{_≡_};
@@ -9,7 +10,7 @@ ghost use lib.ListN.{length, replicate};
 ghost use Rattle.field.specs.Bytes.{xorBytes};
 ghost use Rattle.field.specs.Sums;
 ghost use Rattle.field.specs.Ghash.{Yᵢ};
-ghost use Rattle.field.specs.Counts.{counted};
+ghost use Rattle.field.specs.Contracts.{counted};
 
 // How many blocks n bytes fill: n / 16 rounded up, for any n. It serves the layers above.
 pub fn blocks(n: u64) -> u64
@@ -32,22 +33,25 @@ pub fn fold(
     a: &[u8],
     b: &[u8],
     q: usize,
-    count: u64,
+    count: Count,
 ) -> Counted
-    requires { ⌜ (q ≤ 2 ^ 59) × (count + q < 2 ^ 64) ⌝ }
-    ensures { λ r. ⌜ r ≡ counted (Yᵢ h start (replicate lead 0 ++ xorBytes (now (a .entry)) (now (b .entry))) q) (count + q) ⌝ }
+    requires { ⌜ (q ≤ 2 ^ 59) × (count .raised + q < 2 ^ 64) ⌝ }
+    ensures { λ r. ⌜ r ≡ counted (Yᵢ h start (replicate lead 0 ++ xorBytes (now (a .entry)) (now (b .entry))) q) (count .raised + q) ⌝ }
 {
     let mut y = start;
-    let mut n = count;
+    let mut running = count;
     let mut i: usize = 0;
     while i < q {
         let x = Block::load(lead, a, i).plus(Block::load(lead, b, i));
-        let next = counted_product(y.plus(x), h, n);
+        let next = counted_product(y.plus(x), h, running);
         y = next.value;
-        n = next.count;
+        running = next.count;
         i += 1;
     }
-    Counted { value: y, count: n }
+    Counted {
+        value: y,
+        count: running,
+    }
 }
 
 // Horner's rule from start over all the blocks of s. It serves the layers above.
@@ -55,7 +59,7 @@ pub fn run(h: Block, start: Block, s: &[u8]) -> Block
     ensures { λ r. ⌜ r ≡ Yᵢ h start (now (s .entry)) (Sums.blocks (length (now (s .entry)))) ⌝ }
 {
     let q = blocks(s.len() as u64) as usize;
-    let y = fold(h, start, 0, s, &s[..0], q, 0);
+    let y = fold(h, start, 0, s, &s[..0], q, Count::none());
     y.value
 }
 

@@ -1,53 +1,66 @@
--- `field::ghash` meets its contract. Each return by its own law of `Refusals`: refusals 1 and 7, two refusals 2, and the work
--- done. Assumes nothing.
+-- `field::ghash` meets its contract. A refusal leaves the output as it was; where there is none, the hash is written
+-- (`Refusals`).
+use native.Mathlib.Omega.{arith}
 use borrow.Author.Needs.{needs}
-use Rattle.field.proofs.Refusals.{ghash-h, ghash-out, ghash-a, ghash-c, ghash-done}
+use Rattle.field.proofs.Refusals.{ghash-refused, ghash-fits, ghash-done}
 use Rattle.field.proofs.ghash.Statement.{statement}
 use Rattle.field.proofs.ghash.Tie as tie
 
+ghash-refusal-requires : tie.Need-ghash-refusal-requires
+ghash-refusal-requires c κs = search needs
+
+enum-told : tie.Need-enum-told
+enum-told c = search needs
+
+same-length : tie.Need-same-length
+same-length c = search needs
+
 returns : tie.Need-returns
-returns c = ghash-h _ _ _ _ (c .if1 .taken)
+returns c =
+    let told = c .before .before .ghash-refusal .ensures in
+    (told, ghash-refused _ _ _ _ told (c .enum-told .given .1))
 
-returns-2 : tie.Need-returns-2
-returns-2 c = ghash-out _ _ _ _ (c .before .if1 .left) (c .if2 .taken)
-
-returns-3 : tie.Need-returns-3
-returns-3 c = ghash-a _ _ _ _ (c .before .before .if1 .left) (c .before .if2 .left) (c .if3 .taken)
-
-returns-4 : tie.Need-returns-4
-returns-4 c =
-    ghash-c _ _ _ _ (c .before .before .before .if1 .left) (c .before .before .if2 .left) (c .before .if3 .left) (c .if4 .taken)
+enum-told-2 : tie.Need-enum-told-2
+enum-told-2 c = search needs
 
 from-bytes-requires : tie.Need-from-bytes-requires
 from-bytes-requires c κs = search needs
 
 hash-requires : tie.Need-hash-requires
-hash-requires c κs = search needs
+hash-requires c κs =
+    let done = c .before in
+    let fits = ghash-fits _ _ _ _ (done .before .before .ghash-refusal .ensures) (done .enum-told2 .given .1) in
+    (fits .1, fits .2)
 
 write-requires : tie.Need-write-requires
-write-requires c κs = search needs
+write-requires c κs =
+    let done = c .before .before .before in
+    omega (arith, ghash-fits _ _ _ _ (done .before .before .ghash-refusal .ensures) (done .enum-told2 .given .1) .0)
 
-same-length : tie.Need-same-length
-same-length c = search needs
+same-length-2 : tie.Need-same-length-2
+same-length-2 c = search needs
 
-returns-5 : tie.Need-returns-5
-returns-5 c =
-    let hash = c .before .before .before .before in
-    let tests = hash .before .before in
-    ghash-done _ _ _ _
-    (tests .before .before .before .if1 .left) (tests .before .before .if2 .left) (tests .before .if3 .left) (tests .if4 .left)
-    (hash .before .from-bytes .ensures) (hash .hash .ensures) (c .before .before .write .ensures)
+returns-2 : tie.Need-returns-2
+returns-2 c =
+    let wrote = c .before .before in
+    let hash = wrote .before .before in
+    let done = hash .before .before in
+    let told = done .before .before .ghash-refusal .ensures in (
+      told,
+      ghash-done _ _ _ _ told (done .enum-told2 .given .1) (hash .before .from-bytes .ensures) (hash .hash .ensures) (wrote .write .ensures),
+    )
 
 pub ghash-spec : {M : Type 1} → statement M
 ghash-spec =
     tie.close
     (tie.spec
+    ghash-refusal-requires
+    enum-told
+    same-length
     returns
-    returns-2
-    returns-3
-    returns-4
+    enum-told-2
     from-bytes-requires
     hash-requires
     write-requires
-    same-length
-    returns-5)
+    same-length-2
+    returns-2)

@@ -1,4 +1,4 @@
--- `field::multiplying::added_where` meets its contract. The words computed have the value of the sum (`Words`). Assumes nothing.
+-- `field::multiplying::added_where` meets its contract. The words computed have the value of the sum (`Words`).
 use native.Mathlib.Omega.{arith}
 use borrow.Author.Needs.{needs}
 use Rattle.field.proofs.Words.{value-added}

@@ -1,4 +1,4 @@
--- `field::multiplying::bit_of` meets its contract. Bit i lies in the left word or in the right one (`Words`). Assumes nothing.
+-- `field::multiplying::bit_of` meets its contract. Bit i lies in the left word or in the right one (`Words`).
 use native.Mathlib.Omega.{arith}
 use borrow.Author.Needs.{needs}
 use Rattle.field.proofs.Words.{bit-left, bit-right}

@@ -1,4 +1,4 @@
--- `field::multiplying::mask` meets its contract. The mask is a word, since the bit is at most one (`Words`). Assumes nothing.
+-- `field::multiplying::mask` meets its contract. The mask is a word, since the bit is at most one (`Words`).
 use borrow.Author.Needs.{needs}
 use Rattle.field.proofs.Words.{mask-lt}
 use Rattle.field.proofs.multiplying.mask.Statement.{statement}

@@ -1,5 +1,5 @@
 -- `field::multiplying::product` meets its contract. The loop's invariant is `Turned` of `Turns`: after i turns z and v have the
--- values Z_i and V_i of Algorithm 1. Assumes nothing.
+-- values Z_i and V_i of Algorithm 1.
 use mathlib.Core.Path.{refl}
 use Prim.Native.Nat.{_-_}
 use native.Mathlib.Omega.{arith}

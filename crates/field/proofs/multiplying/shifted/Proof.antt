@@ -1,4 +1,4 @@
--- `field::multiplying::shifted` meets its contract. The words computed have the value of V's next step (`Words`). Assumes nothing.
+-- `field::multiplying::shifted` meets its contract. The words computed have the value of V's next step (`Words`).
 use native.Mathlib.Omega.{arith}
 use borrow.Author.Needs.{needs}
 use Rattle.field.proofs.Words.{value-shifted}

@@ -1,5 +1,5 @@
 -- `field::packing::byte_at` meets its contract. Each return by its own law: a place in the zero bytes, past the end, or in the
--- list behind them (`Packed`). Assumes nothing.
+-- list behind them (`Packed`).
 use borrow.Author.Needs.{needs}
 use Rattle.field.proofs.Packed.{in-lead, past-lead, past-end}
 use Rattle.field.proofs.packing.byte_at.Statement.{statement}

@@ -1,5 +1,5 @@
 -- `field::packing::number_at` meets its contract. The loop's invariant is `Reading` of `Packed`: n is the number of the k bytes
--- read so far. Assumes nothing.
+-- read so far.
 use mathlib.Core.List.{_++_}
 use Prim.Native.Nat.{_-_}
 use borrow.Author.Needs.{needs}
@@ -10,10 +10,10 @@ use Rattle.field.proofs.packing.number_at.Statement.{statement}
 use Rattle.field.proofs.packing.number_at.Tie as tie
 
 abbrev Inv-loop : tie.InvT-loop
-Inv-loop lead s at count n₀ k₀ n k = Reading (replicate lead 0 ++ s) at count n k
+Inv-loop lead s at size n₀ k₀ n k = Reading (replicate lead 0 ++ s) at size n k
 
 abbrev μ-loop : tie.MeasureT-loop
-μ-loop lead s at count n₀ k₀ n k = count - k
+μ-loop lead s at size n₀ k₀ n k = size - k
 
 loop-holds : tie.Need-loop-holds Inv-loop μ-loop
 loop-holds c = reading-start _ _ _

@@ -1,7 +1,9 @@
 -- `field::seeking::companion` meets its contract. The loop's invariant is `Doubling` of `Seek`: after j turns x is h^(2^j) and y
--- is h^(2^(j+1) − 2). Assumes nothing.
+-- is h^(2^(j+1) − 2).
+use mathlib.Core.Path.{ap}
 use Prim.Native.Nat.{_-_}
 use native.Mathlib.Omega.{arith}
+use Rattle.field.specs.declared.multiplying.Counted.{Counted}
 use Rattle.field.specs.Blocks.{one, block}
 use Rattle.field.proofs.Seek.{Doubling, doubling-start, doubling-next, doubling-done}
 use Rattle.field.proofs.seeking.companion.Statement.{statement}
@@ -17,11 +19,17 @@ loop-holds : tie.Need-loop-holds Inv-loop μ-loop
 unfolding one block
 loop-holds c = doubling-start _ (record { hi = omega arith; lo = omega arith })
 
-product-requires : tie.Need-product-requires Inv-loop μ-loop
-product-requires c κs = tt
+none-requires : tie.Need-none-requires Inv-loop μ-loop
+none-requires c κs = tt
 
-product-requires-2 : tie.Need-product-requires-2 Inv-loop μ-loop
-product-requires-2 c κs = tt
+counted-product-requires : tie.Need-counted-product-requires Inv-loop μ-loop
+counted-product-requires c κs = omega (arith, c .none .ensures)
+
+none-requires-2 : tie.Need-none-requires-2 Inv-loop μ-loop
+none-requires-2 c κs = tt
+
+counted-product-requires-2 : tie.Need-counted-product-requires-2 Inv-loop μ-loop
+counted-product-requires-2 c κs = omega (arith, c .none2 .ensures)
 
 add-j : tie.Need-add-j Inv-loop μ-loop
 add-j c = omega arith
@@ -30,7 +38,11 @@ loop-less : tie.Need-loop-less Inv-loop μ-loop
 loop-less c = omega arith
 
 loop-again : tie.Need-loop-again Inv-loop μ-loop
-loop-again c = doubling-next (c .before .before .before .loop .inv) (omega arith) (c .before .product .ensures) (c .product2 .ensures)
+loop-again c =
+    let next = c .before in
+    let square = next .before .before .before in
+    doubling-next (square .before .before .before .loop .inv) (omega arith)
+    (ap (λ (r : Counted). r .value) (square .counted-product .ensures)) (ap (λ (r : Counted). r .value) (next .counted-product2 .ensures))
 
 returns : tie.Need-returns Inv-loop μ-loop
 returns c = doubling-done (c .before .loop .inv) (omega arith)
@@ -42,8 +54,10 @@ companion-spec =
     Inv-loop
     μ-loop
     loop-holds
-    product-requires
-    product-requires-2
+    none-requires
+    counted-product-requires
+    none-requires-2
+    counted-product-requires-2
     add-j
     loop-less
     loop-again

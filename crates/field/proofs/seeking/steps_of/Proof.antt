@@ -1,5 +1,4 @@
 -- `field::seeking::steps_of` meets its contract. The language's counts of bits are those of the steps' definition (`Steps`).
--- Assumes nothing.
 use mathlib.Core.Path.{sym, _∙_}
 use native.Mathlib.Omega.{arith}
 use lib.Count.{leading-le, ones-le}

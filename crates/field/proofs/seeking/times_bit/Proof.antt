@@ -1,4 +1,4 @@
--- `field::seeking::times_bit` meets its contract. y • x^0 is y, and y • x^1 is y • x (`Seek`). Assumes nothing.
+-- `field::seeking::times_bit` meets its contract. y • x^0 is y, and y • x^1 is y • x (`Seek`).
 use native.Mathlib.Omega.{arith}
 use borrow.Author.Needs.{needs}
 use Rattle.field.proofs.Seek.{times-bit-zero, times-bit-one}

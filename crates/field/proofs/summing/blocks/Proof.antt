@@ -1,4 +1,4 @@
--- `field::summing::blocks` meets its contract. The quotient rounded up, without a sum that wraps. Assumes nothing.
+-- `field::summing::blocks` meets its contract. The quotient rounded up, without a sum that wraps.
 use borrow.Author.Needs.{needs}
 use native.Mathlib.Omega.{arith}
 use Rattle.field.specs.Sums.{blocks}

@@ -1,4 +1,4 @@
--- `field::summing::run` meets its contract. It is a fold with nothing in front and nothing added (`Folds`). Assumes nothing.
+-- `field::summing::run` meets its contract. It is a fold with nothing in front and nothing added (`Folds`).
 use mathlib.Core.Path.{ap}
 use borrow.Author.Needs.{needs}
 use native.Mathlib.Omega.{arith}
@@ -14,12 +14,16 @@ blocks-requires c κs = search needs
 slice-aggregate-fold : tie.Need-slice-aggregate-fold
 slice-aggregate-fold c = search needs
 
+none-requires : tie.Need-none-requires
+none-requires c κs = search needs
+
 fold-requires : tie.Need-fold-requires
 unfolding blocks
-fold-requires c κs = omega arith
+fold-requires c κs = omega (arith, c .none .ensures)
 
 returns : tie.Need-returns
-returns c = folded _ _ _ _ (c .before .before .before .blocks2 .ensures) (ap (λ (r : Counted). r .value) (c .before .fold .ensures))
+returns c = folded _ _ _ _ (c .before .before .before .before .blocks2 .ensures) (ap (λ (r : Counted). r .value) (c .before .fold .ensures))
 
 pub run-spec : {M : Type 1} → statement M
-run-spec = tie.close (tie.spec blocks-requires slice-aggregate-fold fold-requires returns)
+run-spec =
+    tie.close (tie.spec blocks-requires slice-aggregate-fold none-requires fold-requires returns)

@@ -1,7 +1,7 @@
--- `field::summing::sum` meets its contract. The sum is Y of all the blocks from nothing (`Horner`). Assumes nothing.
+-- `field::summing::sum` meets its contract. The sum is Y of all the blocks from nothing (`Horner`).
 use mathlib.Core.Path.{_∙_}
 use borrow.Author.Needs.{needs}
-use Rattle.field.specs.Blocks.{nil, block}
+use Rattle.field.specs.Blocks.{zeroBlock, block}
 use Rattle.field.proofs.Horner.{horner}
 use Rattle.field.proofs.summing.sum.Statement.{statement}
 use Rattle.field.proofs.summing.sum.Tie as tie
@@ -10,7 +10,7 @@ run-requires : tie.Need-run-requires
 run-requires c κs = search needs
 
 returns : tie.Need-returns
-unfolding nil block
+unfolding zeroBlock block
 returns c = c .run .ensures ∙ horner _ _
 
 pub sum-spec : {M : Type 1} → statement M

@@ -1,5 +1,4 @@
 -- `field::blocks::Block::from_bytes` meets its contract. It is `load` with no zero bytes in front, of the first block.
--- Assumes nothing.
 use native.Mathlib.Omega.{arith}
 use Rattle.field.proofs.blocks.Block.from_bytes.Statement.{statement}
 use Rattle.field.proofs.blocks.Block.from_bytes.Tie as tie

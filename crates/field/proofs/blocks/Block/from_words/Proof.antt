@@ -1,4 +1,4 @@
--- `field::blocks::Block::from_words` meets its contract. A block is its two words (`Values`). Assumes nothing.
+-- `field::blocks::Block::from_words` meets its contract. A block is its two words (`Values`).
 use Rattle.field.proofs.Values.{block-words}
 use Rattle.field.proofs.blocks.Block.from_words.Statement.{statement}
 use Rattle.field.proofs.blocks.Block.from_words.Tie as tie

@@ -1,4 +1,4 @@
--- `field::blocks::Block::load` meets its contract. A list's block is the two words that are read (`Packed`). Assumes nothing.
+-- `field::blocks::Block::load` meets its contract. A list's block is the two words that are read (`Packed`).
 use native.Mathlib.Omega.{arith}
 use Rattle.field.proofs.Packed.{blockAt-words}
 use Rattle.field.proofs.blocks.Block.load.Statement.{statement}

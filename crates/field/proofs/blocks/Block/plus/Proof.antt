@@ -1,4 +1,4 @@
--- `field::blocks::Block::plus` meets its contract. The sum of two blocks is the sum of their words (`Words`). Assumes nothing.
+-- `field::blocks::Block::plus` meets its contract. The sum of two blocks is the sum of their words (`Words`).
 use native.Mathlib.Omega.{arith}
 use Rattle.field.proofs.Words.{⊕-words}
 use Rattle.field.proofs.blocks.Block.plus.Statement.{statement}

@@ -1,4 +1,4 @@
--- `field::blocks::Block::to_bytes` meets its contract. Sixteen bytes written over are the block's (`Packed`). Assumes nothing.
+-- `field::blocks::Block::to_bytes` meets its contract. Sixteen bytes written over are the block's (`Packed`).
 use mathlib.Core.Path.{_∙_, refl}
 use borrow.Author.Needs.{needs}
 use Rattle.field.proofs.Packed.{bytesOf-whole}

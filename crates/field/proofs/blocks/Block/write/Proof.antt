@@ -1,5 +1,4 @@
 -- `field::blocks::Block::write` meets its contract. Both words written one behind the other are the block's bytes (`Packed`).
--- Assumes nothing.
 use borrow.Author.Needs.{needs}
 use native.Mathlib.Omega.{arith}
 use Rattle.field.proofs.Packed.{bytesOf-words}

@@ -1,8 +1,8 @@
--- `field::streaming::Stream::absorb` meets its contract. Field by field, by what `run` gives. Assumes nothing.
+-- `field::streaming::Stream::absorb` meets its contract. Field by field, by what `run` gives.
 use Prim.Native.Nat.{_+_}
 use borrow.Author.Needs.{needs}
 use lib.ListN.{length}
-use Rattle.field.specs.Streams.{absorbed}
+use Rattle.field.specs.Contracts.{absorbed}
 use Rattle.field.proofs.streaming.Stream.absorb.Statement.{statement}
 use Rattle.field.proofs.streaming.Stream.absorb.Tie as tie
 

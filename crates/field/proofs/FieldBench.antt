@@ -1,6 +1,6 @@
 -- Document 01's bench cases of this layer, those marked with a star, hold.
 -- Each is shown by the laws down to sums and steps of written numbers, which are computed; Algorithm 1 itself is never run.
--- Rests on Product, Ring and Hash. Assumes nothing.
+-- Rests on Product, Ring and Hash.
 use mathlib.Core.Path.{_≡_, refl, sym, ap, _∙_}
 use mathlib.Core.List.{[], _∷_, _++_}
 use Prim.Native.Nat.{ℕ, _*_, _^_, _<_}
@@ -10,14 +10,14 @@ use lib.Dec.{lit<}
 use Rattle.field.specs.declared.blocks.Block.{Block}
 use Rattle.field.specs.Elements.{xor, only, R, shifted}
 use Rattle.field.specs.Bytes.{number, bytes}
-use Rattle.field.specs.Blocks.{block, nil, one, _⊕_, _•_, blockAt}
+use Rattle.field.specs.Blocks.{block, zeroBlock, one, _⊕_, _•_, blockAt}
 use Rattle.field.specs.Powers.{digitsIn, width, steps}
 use Rattle.field.specs.Sums.{blocks}
-use Rattle.field.specs.Ghash.{Yᵢ, padded, hashed, ghash}
-use Rattle.field.specs.Cases.{Cases}
+use Rattle.field.specs.Ghash.{Yᵢ, padded, ghashInput, ghash}
+use Rattle.field.specs.FieldBench.{FieldBench}
 use Rattle.field.proofs.Product.{times-x}
 use Rattle.field.proofs.Values.{small-block}
-use Rattle.field.proofs.Ring.{block-xor, block-times, nil-⊕, •-comm, •-one, one-•}
+use Rattle.field.proofs.Ring.{block-xor, block-times, zero-⊕, •-comm, •-one, one-•}
 use Rattle.field.proofs.Hash.{ghash-nothing}
 
 -- the product by x, on blocks
@@ -30,39 +30,31 @@ x-top = •-x 1 (lit< tt) ∙ unfold shifted only xor R in refl
 
 -- GHASH of one block v and the lengths l, in two products
 two-products : (h : Block) (v l w z : ℕ) → v < 2 ^ 128 → l < 2 ^ 128 → w < 2 ^ 128 → block v • h ≡ block w → block (xor w l) • h ≡ block z
-    → ((nil ⊕ block v) • h ⊕ block l) • h ≡ block z
+    → ((zeroBlock ⊕ block v) • h ⊕ block l) • h ≡ block z
 two-products h v l w z p q r e f =
-    ap (λ (b : Block). (b • h ⊕ block l) • h) (nil-⊕ (block v) (small-block v p))
+    ap (λ (b : Block). (b • h ⊕ block l) • h) (zero-⊕ (block v) (small-block v p))
     ∙ ap (λ (b : Block). (b ⊕ block l) • h) e ∙ ap (λ (b : Block). b • h) (sym (block-xor w l r q)) ∙ f
 
 -- H one, the file 01
 ghash-one : ghash one (1 ∷ []) [] ≡ block 0x01000000000000080000000000000000
-unfolding ghash hashed padded blocks bytes Yᵢ blockAt number xor
+unfolding ghash ghashInput padded blocks bytes Yᵢ blockAt number xor
 ghash-one =
     two-products one (2 ^ 120) (2 ^ 67) (2 ^ 120) _ (lit< tt) (lit< tt) (lit< tt)
     (•-one _ (small-block _ (lit< tt))) (•-one _ (small-block _ (lit< tt)))
 
 -- H x, the file fifteen zeros, then 01
 ghash-x : ghash (block (2 ^ 126)) (replicate 15 0 ++ (1 ∷ [])) [] ≡ block 0x70800000000000400000000000000000
-unfolding ghash hashed padded blocks bytes Yᵢ blockAt number shifted only xor R
+unfolding ghash ghashInput padded blocks bytes Yᵢ blockAt number shifted only xor R
 ghash-x =
     two-products (block (2 ^ 126)) 1 (2 ^ 71) (0xe1 * 2 ^ 120) _ (lit< tt) (lit< tt) (lit< tt)
     (•-comm (block 1) (block (2 ^ 126)) ∙ x-top) (•-comm _ (block (2 ^ 126)) ∙ •-x _ (lit< tt))
 
--- what the cases of n = 40, of three and of four blocks, come to besides
+-- what a case of n = 40, of three blocks, comes to besides
 pub steps-3 : steps 3 ≡ 3
 unfolding steps width digitsIn ones onesIn
 steps-3 = refl
 
-pub width-3 : width 3 ≡ 2
-unfolding width digitsIn
-width-3 = refl
-
-pub width-4 : width 4 ≡ 3
-unfolding width digitsIn
-width-4 = refl
-
-pub cases : Cases
+pub cases : FieldBench
 unfolding blocks steps width digitsIn ones onesIn
 cases =
     record {

@@ -1,22 +1,21 @@
--- Document 01's bench cases of this layer, those marked with a star, as one statement about the definitions. Its proof is in proofs/Cases.
--- Assumes nothing.
+-- Document 01's bench cases of this layer, those marked with a star, as one statement about the definitions. Its proof is in proofs/FieldBench.
 use mathlib.Core.Path.{_≡_}
 use mathlib.Core.List.{[], _∷_, _++_}
 use lib.ListN.{replicate}
 use Rattle.field.specs.declared.blocks.Block.{Block}
-use Rattle.field.specs.Blocks.{block, Small, nil, one, _•_}
+use Rattle.field.specs.Blocks.{block, Small, zeroBlock, one, _•_}
 use Rattle.field.specs.Powers.{steps}
 use Rattle.field.specs.Sums.{blocks}
 use Rattle.field.specs.Ghash.{ghash}
 
 -- the cases that speak of the field alone (document 01, "Bench cases")
-pub record Cases : Type 0 where
+pub record FieldBench : Type 0 where
   -- one times any block is that block
   pub one-times : (b : Block) → Small b → one • b ≡ b
   -- x times x^127
   pub x-times-top : block 0x40000000000000000000000000000000 • block 1 ≡ block 0xe1000000000000000000000000000000
   -- GHASH of nothing, any H
-  pub hash-of-nothing : (h : Block) → ghash h [] [] ≡ nil
+  pub hash-of-nothing : (h : Block) → ghash h [] [] ≡ zeroBlock
   -- H = one, file 01: its blocks and its hash
   pub blocks-of-one : blocks 1 ≡ 1
   pub hash-under-one : ghash one (1 ∷ []) [] ≡ block 0x01000000000000080000000000000000

@@ -1,5 +1,4 @@
 -- A test that is computed at each of the numbers below a bound, and what it shows of each of them.
--- Assumes nothing.
 use mathlib.Core.Path.{_≡_}
 use mathlib.Core.Logic.{_⊎_, inl, inr}
 use mathlib.Core.Bool.{Bool, true, false, _&&_}

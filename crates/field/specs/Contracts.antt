@@ -1,0 +1,42 @@
+-- What serves contracts alone and stands in no standard: the numbers of the answers that code gives, and what code's functions
+-- return, written whole, so that a contract is one equation.
+use mathlib.Core.List.{List}
+use Prim.Native.Nat.{ℕ, _+_}
+use lib.ListN.{length}
+use Rattle.field.specs.declared.blocks.Block.{Block}
+use Rattle.field.specs.declared.multiplying.Counted.{Counted}
+use Rattle.field.specs.declared.seeking.Sought.{Sought}
+use Rattle.field.specs.declared.streaming.Stream.{Stream}
+use Rattle.field.specs.declared.Cause.{Cause}
+use Rattle.field.specs.declared.Cause.the-variants.{InputLength, TooLong, OutputLength}
+use Rattle.field.specs.declared.Answer.{Answer}
+use Rattle.field.specs.declared.Answer.the-variants.{Done, Refused}
+use Rattle.field.specs.Sums.{blocks, sum}
+use Rattle.field.specs.Ghash.{Yᵢ}
+
+-- the number of a cause (document 01, "Causes and their numbers")
+abbrev pub causeNumber : Cause → ℕ
+causeNumber InputLength = 1
+causeNumber TooLong = 2
+causeNumber OutputLength = 7
+
+-- the number of an answer (document 01, "Causes and their numbers"), 0 where the work was done
+abbrev pub answerRefusal : Answer → ℕ
+answerRefusal Done = 0
+answerRefusal (Refused cause) = causeNumber cause
+
+-- a product and the running count of counted products (document 01, "The file and its five edits")
+abbrev pub counted : Block → ℕ → Counted
+counted v n = record { value = v; count = record { raised = n } }
+
+-- a power, seek's steps, and that running count (the same)
+abbrev pub sought : Block → ℕ → ℕ → Sought
+sought p s n = record { power = p; steps = s; count = record { raised = n } }
+
+-- a stream under H that has taken the bytes s, of whole blocks or at their end: H, the sum of s, and how many bytes they are
+unfoldable pub streamed : Block → List ℕ → Stream
+streamed h s = record { h = h; y = sum h s; n = length s }
+
+-- a stream that goes on over one chunk more, whose last block is padded with zero bytes
+unfoldable pub absorbed : Stream → List ℕ → Stream
+absorbed t s = record { h = t .h; y = Yᵢ (t .h) (t .y) s (blocks (length s)); n = t .n + length s }
