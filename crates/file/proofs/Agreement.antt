@@ -1,23 +1,23 @@
 -- What the editor's run and the plain machine's have in common after any list of calls: it is set up by an accepted start or read, one call
--- keeps it, by a law for each field, and the list is an induction.
--- It rests on the invariant (`Invariant`), on one call's answers and counts (`Calls`) and on its seal number (`Numbers`). Assumes nothing.
+-- keeps it, and the list is an induction.
+-- It rests on the invariant and what one call keeps of it (`Invariant`) and on the row that seal numbers stand in (`Numbers`).
 use mathlib.Core.Path.{_≡_, refl, ap₂}
 use mathlib.Core.List.{List, [], _∷_, _++_}
 use Prim.Native.Nat.{ℕ, _+_, _<_, _^_}
-use lib.ListN.{length}
 use Rattle.file.specs.declared.states.State.{State}
-use Rattle.file.specs.States.{started, readFile}
-use Rattle.file.specs.Machine.{Call, edit, seal, check, Machine, blank}
-use Rattle.file.specs.Runs.{Run, Within, begun, further, run, fromStart, fromRead}
-use Rattle.file.proofs.Calls.{answer-agrees, count-agrees, count-short}
-use Rattle.file.proofs.Invariant.{Holds, Summed, holds-start, summed-start, holds-read, summed-read, holds-kept, summed-kept}
-use Rattle.file.proofs.Numbers.{Rise, rise-none, rise-join, issued-call}
+use Rattle.file.specs.States.{Start, Reading}
+use Rattle.file.specs.Calls.{Call}
+use Rattle.file.specs.Machine.{Machine, blank, lent}
+use Rattle.file.specs.Runs.{Run, begun, further, run, fromStart, fromRead}
+use Rattle.file.specs.Demands.{AcceptedStart, AcceptedRead}
+use Rattle.file.proofs.Invariant.{Holds, Summed, holds-start, summed-start, holds-read, summed-read, agreed-call}
+use Rattle.file.proofs.Numbers.{Rise, rise-none, rise-join, rise-call}
 
 pub record Agrees (key : List ℕ) (arm last : ℕ) (r : Run) : Type 0 where
   pub holds : Holds key arm (r .state) (r .machine)
   pub summed : r .truth → Summed key (r .state) (r .machine)
-  pub refusals : r .answers ≡ r .expected
-  pub total : r .total ≡ r .owed
+  pub refusals : r .refusals ≡ r .machineRefusals
+  pub total : r .total ≡ r .machineTotal
   pub within : r .within
   pub numbers : Rise last (r .numbers) (r .machine .last)
 
@@ -27,28 +27,20 @@ unfolding begun
 agrees-begun key arm st m h s =
     record { holds = h; summed = λ t. s; refusals = refl; total = refl; within = tt; numbers = rise-none (m .last) }
 
--- no edit reports more than q + 2b
-within-call : (st : State) (m : Machine) (c : Call) → st .n ≡ length (m .bytes) → Within st m c
-unfolding Within
-within-call st m (edit e) n = rw (count-agrees st m (edit e) n) (count-short m e)
-within-call st m (seal out) n = tt
-within-call st m (check slip) n = tt
-
 -- one call keeps it
 agrees-further : (key : List ℕ) (arm last : ℕ) (r : Run) → arm < 2 ^ 32 → Agrees key arm last r → (c : Call)
     → Agrees key arm last (further r c)
 unfolding further
 agrees-further key arm last r w g c =
-    let st = r .state in
     let m = r .machine in
-    let h = g .holds in
+    let k = agreed-call key arm (r .state) m (g .holds) c in
     record {
-      holds = holds-kept key arm st m h c;
-      summed = λ t. summed-kept key arm st m h c (t .1) (g .summed (t .0));
-      refusals = ap₂ (λ (x : List ℕ) (y : ℕ). x ++ (y ∷ [])) (g .refusals) (answer-agrees st m c (h .same-n) (h .same-last));
-      total = ap₂ _+_ (g .total) (count-agrees st m c (h .same-n));
-      within = (g .within, within-call st m c (h .same-n));
-      numbers = rise-join last (m .last) _ (r .numbers) _ (g .numbers) (issued-call key arm st m h w c);
+      holds = k .holds;
+      summed = λ t. k .summed (t .1) (g .summed (t .0));
+      refusals = ap₂ (λ (x : List ℕ) (y : ℕ). x ++ (y ∷ [])) (g .refusals) (k .refusals);
+      total = ap₂ _+_ (g .total) (k .counts);
+      within = (g .within, k .within);
+      numbers = rw (k .issues w) (rise-join last (m .last) _ (r .numbers) _ (g .numbers) (rise-call m c));
     }
 
 -- and so does a list, wherever it begins
@@ -58,16 +50,14 @@ unfolding run
 agrees-run key arm last r [] w g = g
 agrees-run key arm last r (c ∷ cs) w g = agrees-run key arm last (further r c) cs w (agrees-further key arm last r w g c)
 
-pub agrees-start : (key : List ℕ) (arm last n : ℕ) → started key arm last n .number ≡ 0 → arm < 2 ^ 32 → last < 2 ^ 64
-    → (calls : List Call) → Agrees key arm last (fromStart key arm last n calls)
+pub agrees-start : (s : Start) → AcceptedStart s → (calls : List Call) → Agrees (s .key) (s .arm) (s .last) (fromStart s calls)
 unfolding fromStart blank
-agrees-start key arm last n e w l calls =
-    agrees-run key arm last _ calls w
-    (agrees-begun key arm _ (blank n last) (holds-start key arm last n e l) (summed-start key arm last n e))
+agrees-start s a calls =
+    agrees-run (s .key) (s .arm) (s .last) _ calls (a .arm)
+    (agrees-begun (s .key) (s .arm) _ (blank s) (holds-start s (a .accepted) (a .last)) (summed-start s (a .accepted)))
 
-pub agrees-read : (key : List ℕ) (arm last : ℕ) (file : List ℕ) → readFile key arm last file .number ≡ 0 → arm < 2 ^ 32 → last < 2 ^ 64
-    → (calls : List Call) → Agrees key arm last (fromRead key arm last file calls)
-unfolding fromRead
-agrees-read key arm last file e w l calls =
-    agrees-run key arm last _ calls w
-    (agrees-begun key arm _ (record { bytes = file; last = last }) (holds-read key arm last file e l) (summed-read key arm last file e))
+pub agrees-read : (r : Reading) → AcceptedRead r → (calls : List Call) → Agrees (r .key) (r .arm) (r .last) (fromRead r calls)
+unfolding fromRead lent
+agrees-read r a calls =
+    agrees-run (r .key) (r .arm) (r .last) _ calls (a .arm)
+    (agrees-begun (r .key) (r .arm) _ (lent r) (holds-read r (a .accepted) (a .last)) (summed-read r (a .accepted)))

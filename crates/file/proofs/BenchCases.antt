@@ -1,7 +1,6 @@
 -- Document 01's bench cases, those marked with a star, hold.
--- Those of the field are field's own law (Cases); the counts rest on its values of block counts and steps (Horner, Cases) and on what an edit
--- reports (Calls), and the slip's first bytes on the bytes of a number (Bytes).
--- Assumes nothing.
+-- Those of the field are field's own law (FieldBench); the counts rest on its values of block counts and steps (BlockCounts, FieldBench) and
+-- on what an accepted edit answers (Calls), and the slip's first bytes on the bytes of a number (Bytes).
 use mathlib.Core.Path.{_≡_, refl, ap, _∙_}
 use mathlib.Core.List.{[], _∷_}
 use Prim.Native.Nat.{ℕ, _+_, _*_, _^_, _<_}
@@ -9,20 +8,21 @@ use native.Mathlib.Nat.{le-refl, lt-of-lt-of-le, add-assoc, add-lt-add-of-le-of-
 use lib.Dec.{lit≤}
 use lib.ListN.{length, take}
 use lib.Seq.{take-at}
+use Rattle.refusals.specs.Refusals.{first}
 use Rattle.field.specs.Field.{bytes}
 use Rattle.field.proofs.Bytes.{length-bytes, bytes-append, bytes-zero, bytes-suc}
-use Rattle.field.proofs.Horner.{blocks-value}
-use Rattle.field.proofs.Cases.{cases, steps-3}
+use Rattle.field.proofs.BlockCounts.{blocks-value}
+use Rattle.field.proofs.FieldBench.{cases, steps-3}
 use Rattle.file.specs.Edits.{Edit, change, append, prepend, dropFront, cutTail, kindOf, placeOf, given, replacing}
-use Rattle.file.specs.Edits.{editNumber, refusalFor, standsAt, lengthAfter, touched, exponent, geometry, geometryAt, countOf}
-use Rattle.file.specs.States.{refusalOf}
-use Rattle.file.specs.Slips.{slipValue, slipBytes}
+use Rattle.file.specs.Edits.{kindCauses, kindRefusal, standsAt, lengthAfter, touched, exponent, geometry, geometryAt, editRefusal, countOf}
+use Rattle.file.specs.States.{StateAnswer}
+use Rattle.file.specs.Slips.{slipValue, packedSlip}
 use Rattle.file.specs.BenchCases.{Counts, BenchCases}
-use Rattle.file.proofs.Calls.{edited-number, edited-count}
+use Rattle.file.proofs.Calls.{edit-accepted}
 
 -- a slip of version 1, length 40, arm 7 and number 1: what stands before the seal number and the tag
-slip-head : (tag : ℕ) → tag < 2 ^ 128 → take 12 (slipBytes 40 7 1 tag) ≡ bytes 12 ((2 ^ 61 + 40) * 2 ^ 32 + 7)
-unfolding slipBytes slipValue
+slip-head : (tag : ℕ) → tag < 2 ^ 128 → take 12 (packedSlip 40 7 1 tag) ≡ bytes 12 ((2 ^ 61 + 40) * 2 ^ 32 + 7)
+unfolding packedSlip slipValue
 slip-head tag h =
     let a = (2 ^ 61 + 40) * 2 ^ 32 + 7 in
     let b = 2 ^ 128 + tag in
@@ -52,12 +52,15 @@ head-bytes =
 
 -- an edit that gives l bytes and r new ones reports what lengths say
 counted : (e : Edit) (count l r : ℕ) → length (given e) ≡ l → length (replacing e) ≡ r
-    → geometry (kindOf e) (placeOf e) l r 40 .number ≡ 0 → countOf (geometry (kindOf e) (placeOf e) l r 40) ≡ count → Counts e count
-unfolding Counts refusalOf geometryAt
-counted e count l r el er a c st n = (edited-number st e ∙ cc, edited-count st e ∙ cc)
+    → geometry (kindOf e) (placeOf e) l r 40 .refusal ≡ 0 → countOf (geometry (kindOf e) (placeOf e) l r 40) ≡ count → Counts e count
+unfolding Counts editRefusal geometryAt
+counted e count l r el er a c st n =
+    let z : geometryAt (st .n) e .refusal ≡ 0 = cc in
+    let all = edit-accepted st e z in
+    (ap (λ (x : StateAnswer). x .refusal) all, ap (λ (x : StateAnswer). x .count) all ∙ cc)
 
 pub bench-cases : BenchCases
-unfolding kindOf placeOf given replacing geometry refusalFor editNumber standsAt lengthAfter touched exponent countOf
+unfolding kindOf placeOf given replacing geometry kindRefusal kindCauses first standsAt lengthAfter touched exponent countOf
 bench-cases =
     record {
       field = cases;

@@ -1,7 +1,6 @@
 -- What an accepted edit does to the machine's bytes, their count and their sum, and the bound on its count: the laws of the five edits by which
 -- the editor's run and the plain machine's are compared.
 -- Rests on Accepted, Placed, ShapeLaws and EditSums, and on field's bound on seek's steps (Steps).
--- Assumes nothing.
 use mathlib.Core.Path.{_≡_, sym, ap, ap₂, _∙_}
 use mathlib.Core.Logic.{_≢_, _⊎_, inl, inr}
 use mathlib.Core.List.{List, [], _++_, append-nil, append-assoc}
@@ -12,59 +11,58 @@ use lib.ListN.{length, take, drop, replicate, length-append, length-take, length
 use lib.Seq.{drop-drop, take-all, length-take-le}
 use borrow.Author.Tests.{ne-eqb}
 use Rattle.field.specs.declared.blocks.Block.{Block}
-use Rattle.field.specs.Field.{Small, _⊕_, _•_, power, sum, companion, limit, blocks, steps, width}
+use Rattle.field.specs.Field.{Small, _⊕_, _•_, power, sum, companion, maxBytes, blocks, steps, width}
 use Rattle.field.proofs.XorBytes.{xorBytes-zeros}
 use Rattle.field.proofs.Steps.{steps-bound}
 use Rattle.file.specs.declared.geometry.Kind.{Kind}
 use Rattle.file.specs.declared.geometry.Kind.the-variants.{Change, DropFront, CutTail}
 use Rattle.file.specs.Edits.{Edit, change, append, prepend, dropFront, cutTail, kindOf, placeOf, given, replacing}
-use Rattle.file.specs.Edits.{refusalFor, standsAt, lengthAfter, touched, exponent, Geometry, geometryAt, countOf}
+use Rattle.file.specs.Edits.{kindRefusal, standsAt, lengthAfter, touched, exponent, Geometry, geometryAt, editRefusal, countOf, countLimit}
 use Rattle.file.specs.Table.{placedSum, newSum}
-use Rattle.file.specs.States.{refusalOf}
-use Rattle.file.specs.Machine.{bytesAfter, Named, countLimit}
+use Rattle.file.specs.Machine.{bytesAfter, NamesHeld}
 use Rattle.file.proofs.Accepted.{Accepted, accepted}
 use Rattle.file.proofs.Placed.{exponent-change, exponent-drop, exponent-le, some-block}
-use Rattle.file.proofs.ShapeLaws.{touched-some, geometry-number, geometry-fits, geometry-nothing, geometry-none}
+use Rattle.file.proofs.ShapeLaws.{touched-some, geometry-refusal, geometry-fits, geometry-nothing, geometry-none}
 use Rattle.file.proofs.EditSums.{change-sum, append-sum, prepend-sum, drop-sum, cut-sum}
 
 -- ---- what an edit with its bytes does to lengths
 
-refusal-number : (n : ℕ) (e : Edit) → refusalOf n e ≡ refusalFor (kindOf e) (placeOf e) (length (given e)) (length (replacing e)) n
-unfolding refusalOf geometryAt
-refusal-number n e = geometry-number _ _ _ _ n
+refusal-kind : (n : ℕ) (e : Edit) → editRefusal n e ≡ kindRefusal (kindOf e) (placeOf e) (length (given e)) (length (replacing e)) n
+unfolding editRefusal geometryAt
+refusal-kind n e = geometry-refusal _ _ _ _ n
 
 -- of an accepted edit of at least one byte
-pub geometry-some : (n : ℕ) (e : Edit) → refusalOf n e ≡ 0 → length (given e) ≢ 0
+pub geometry-some : (n : ℕ) (e : Edit) → editRefusal n e ≡ 0 → length (given e) ≢ 0
     → geometryAt n e ≡ record {
-      number = 0;
+      refusal = 0;
       lead = standsAt (kindOf e) (placeOf e) (length (given e)) n % 16;
       q = touched (standsAt (kindOf e) (placeOf e) (length (given e)) n) (length (given e));
       k = exponent (kindOf e) (placeOf e) (length (given e)) n;
       n = lengthAfter (kindOf e) (length (given e)) n;
     }
 unfolding geometryAt
-geometry-some n e a z = geometry-fits _ _ _ _ n (sym (refusal-number n e) ∙ a) (omega arith)
+geometry-some n e a z = geometry-fits _ _ _ _ n (sym (refusal-kind n e) ∙ a) (omega arith)
 
 -- which touches a block, as no other edit does
-pub some-touched : (n : ℕ) (e : Edit) → refusalOf n e ≡ 0 → length (given e) ≢ 0 → geometryAt n e .q ≢ 0
+pub some-touched : (n : ℕ) (e : Edit) → editRefusal n e ≡ 0 → length (given e) ≢ 0 → geometryAt n e .q ≢ 0
 some-touched n e a z q = touched-some _ _ (omega arith) (sym (ap (λ (g : Geometry). g .q) (geometry-some n e a z)) ∙ q)
 
-pub refused-untouched : (n : ℕ) (e : Edit) → refusalOf n e ≢ 0 → geometryAt n e .q ≡ 0
+pub refused-untouched : (n : ℕ) (e : Edit) → editRefusal n e ≢ 0 → geometryAt n e .q ≡ 0
 unfolding geometryAt
-refused-untouched n e a = geometry-none _ _ _ _ n (λ z. a (refusal-number n e ∙ z))
+refused-untouched n e a = geometry-none _ _ _ _ n (λ z. a (refusal-kind n e ∙ z))
 
-pub none-untouched : (n : ℕ) (e : Edit) → refusalOf n e ≡ 0 → length (given e) ≡ 0 → geometryAt n e .q ≡ 0
+pub none-untouched : (n : ℕ) (e : Edit) → editRefusal n e ≡ 0 → length (given e) ≡ 0 → geometryAt n e .q ≡ 0
 unfolding geometryAt
-none-untouched n e a z = sym (ap (λ (g : Geometry). g .q) (geometry-nothing _ _ _ _ n (sym (refusal-number n e) ∙ a) z))
+none-untouched n e a z = sym (ap (λ (g : Geometry). g .q) (geometry-nothing _ _ _ _ n (sym (refusal-kind n e) ∙ a) z))
 
 -- what holds of an accepted edit
-pub allowed : (n : ℕ) (e : Edit) → refusalOf n e ≡ 0 → Accepted (kindOf e) (placeOf e) (length (given e)) (length (replacing e)) n
-allowed n e a = accepted (kindOf e) (placeOf e) (length (given e)) (length (replacing e)) n (sym (refusal-number n e) ∙ a)
+pub allowed : (n : ℕ) (e : Edit) → editRefusal n e ≡ 0 → Accepted (kindOf e) (placeOf e) (length (given e)) (length (replacing e)) n
+allowed n e a = accepted (kindOf e) (placeOf e) (length (given e)) (length (replacing e)) n (sym (refusal-kind n e) ∙ a)
 
 -- ---- the bytes and their count
 
 -- the length afterwards is the count of the bytes afterwards
-pub bytes-count : (f : List ℕ) (e : Edit) → refusalOf (length f) e ≡ 0 → length (bytesAfter f e) ≡ lengthAfter (kindOf e) (length (given e)) (length f)
+pub bytes-count : (f : List ℕ) (e : Edit) → editRefusal (length f) e ≡ 0 → length (bytesAfter f e) ≡ lengthAfter (kindOf e) (length (given e)) (length f)
 unfolding bytesAfter lengthAfter kindOf placeOf given replacing
 bytes-count f (change p old new) a =
     let k = allowed (length f) (change p old new) a in
@@ -75,7 +73,7 @@ bytes-count f (dropFront s) a = length-drop (length s) f
 bytes-count f (cutTail s) a = simp length-take (omega arith)
 
 -- no accepted edit passes the limit
-pub limit-kept : (n : ℕ) (e : Edit) → refusalOf n e ≡ 0 → lengthAfter (kindOf e) (length (given e)) n ≤ limit
+pub limit-kept : (n : ℕ) (e : Edit) → editRefusal n e ≡ 0 → lengthAfter (kindOf e) (length (given e)) n ≤ maxBytes
 unfolding lengthAfter kindOf placeOf given replacing
 limit-kept n (change p old new) a = allowed n (change p old new) a .bounded
 limit-kept n (append s) a = allowed n (append s) a .fits
@@ -88,7 +86,7 @@ limit-kept n (cutTail s) a =
     omega arith
 
 -- an edit of no bytes leaves the bytes as they are
-pub nothing-kept : (f : List ℕ) (e : Edit) → refusalOf (length f) e ≡ 0 → length (given e) ≡ 0 → bytesAfter f e ≡ f
+pub nothing-kept : (f : List ℕ) (e : Edit) → editRefusal (length f) e ≡ 0 → length (given e) ≡ 0 → bytesAfter f e ≡ f
 unfolding bytesAfter kindOf placeOf given replacing
 nothing-kept f (change p old new) a n =
     let k = allowed (length f) (change p old new) a in
@@ -151,12 +149,12 @@ cut-kept h f s small b t =
 
 -- document 01's table gives the sum of the bytes afterwards, where the bytes named are there
 pub sum-kept :
-    (h : Block) (f : List ℕ) (e : Edit) → Small h → refusalOf (length f) e ≡ 0 → length (given e) ≢ 0 → Named f e
+    (h : Block) (f : List ℕ) (e : Edit) → Small h → editRefusal (length f) e ≡ 0 → length (given e) ≢ 0 → NamesHeld f e
     → newSum (kindOf e) h (companion h) (sum h f)
     (placedSum h (standsAt (kindOf e) (placeOf e) (length (given e)) (length f) % 16) (given e) (replacing e))
     (exponent (kindOf e) (placeOf e) (length (given e)) (length f))
     ≡ sum h (bytesAfter f e)
-unfolding newSum standsAt exponent bytesAfter Named kindOf placeOf given replacing
+unfolding newSum standsAt exponent bytesAfter NamesHeld kindOf placeOf given replacing
 sum-kept h f (change p old new) small a n t =
     let k = allowed (length f) (change p old new) a in
     change-kept h f old new p (omega arith) (k .fits .0) (k .fits .1) t
@@ -175,13 +173,13 @@ some-within : (kind : Kind) {p l r n : ℕ} → Accepted kind p l r n → 0 < l
 some-within kind {p} {l} {r} {n} a some q = omega (arith, steps-bound _ _ (exponent-le kind p l n) (some-block kind a some))
 
 -- the count is at most q + 2b
-within-by : (n : ℕ) (e : Edit) → (refusalOf n e ≡ 0) ⊎ (0 < refusalOf n e) → (length (given e) ≡ 0) ⊎ (0 < length (given e))
-    → countOf (geometryAt n e) ≤ countLimit n e
+within-by : (n : ℕ) (e : Edit) → (editRefusal n e ≡ 0) ⊎ (0 < editRefusal n e) → (length (given e) ≡ 0) ⊎ (0 < length (given e))
+    → countOf (geometryAt n e) ≤ countLimit n (geometryAt n e)
 unfolding countOf countLimit
 within-by n e (inr a) l = rw (refused-untouched n e (λ z. omega arith)) zero-le
 within-by n e (inl a) (inl z) = rw (none-untouched n e a z) zero-le
 within-by n e (inl a) (inr z) =
     rw (ne-eqb _ 0 (some-touched n e a (λ y. omega arith)), geometry-some n e a (λ y. omega arith)) (some-within (kindOf e) (allowed n e a) z _)
 
-pub count-within : (n : ℕ) (e : Edit) → countOf (geometryAt n e) ≤ countLimit n e
-count-within n e = within-by n e (eq-zero-or-pos (refusalOf n e)) (eq-zero-or-pos (length (given e)))
+pub count-within : (n : ℕ) (e : Edit) → countOf (geometryAt n e) ≤ countLimit n (geometryAt n e)
+count-within n e = within-by n e (eq-zero-or-pos (editRefusal n e)) (eq-zero-or-pos (length (given e)))

@@ -2,7 +2,6 @@
 -- edit tells apart, so that no law speaks of places. A row's W is the sum of the given bytes behind lead zero bytes, and its k a
 -- difference of block counts.
 -- Rests on field's laws of the ring, of added byte lists and of the sum (Ring, XorBytes, Sums), and on Placed.
--- Assumes nothing.
 use mathlib.Core.Path.{_≡_, sym, ap, ap₂, _∙_}
 use mathlib.Core.List.{List, _++_}
 use Prim.Native.Nat.{ℕ, _+_, _-_, _/_, _%_}

@@ -1,22 +1,16 @@
--- The seal numbers of a list of calls: one call issues at most the next one, and numbers issued one after the other stand in a row.
--- It rests on the invariant (`Invariant`), on one call's numbers (`Calls`) and on the seal's number (`SealLaws`). Assumes nothing.
+-- The seal numbers of a list of calls: one call of the machine issues at most the next one, and numbers issued one after the other stand in a
+-- row. It rests on what one call answers (`Calls`).
 use mathlib.Core.Path.{_≡_, refl, sym, ap, ap₂, _∙_}
-use mathlib.Core.Bool.{Bool, true, false, cond, true≢false, false≢true}
-use mathlib.Core.Logic.{_≢_}
+use mathlib.Core.Logic.{_≢_, _⊎_, inl, inr}
 use mathlib.Core.List.{List, [], _∷_, _++_}
-use Prim.Native.Nat.{ℕ, zero, suc, _+_, _<_, _^_}
+use Prim.Native.Nat.{ℕ, zero, suc, _+_, _<_}
 use native.Mathlib.Omega.{arith}
-use native.Mathlib.Nat.{zero-add, suc-add}
-use lib.Dec.{eqb}
+use native.Mathlib.Nat.{eq-zero-or-pos, zero-add, suc-add}
 use lib.ListN.{length, getD}
-use borrow.Author.Tests.{eqb-true}
-use Rattle.file.specs.declared.states.State.{State}
-use Rattle.file.specs.Slips.{sealed}
-use Rattle.file.specs.Machine.{Call, edit, seal, check, Machine, machineNumber, taken, step}
-use Rattle.file.specs.Runs.{answerOf, issued, upFrom}
-use Rattle.file.proofs.Calls.{edit-case, answer-agrees, check-case}
-use Rattle.file.proofs.Invariant.{Holds}
-use Rattle.file.proofs.SealLaws.{slip-number}
+use Rattle.file.specs.Calls.{Call, edit, seal, check}
+use Rattle.file.specs.Machine.{Machine, withBytes, withLast, acceptedBy, refusedBy, machineRefusal, machineAnswer}
+use Rattle.file.specs.Demands.{upFrom}
+use Rattle.file.proofs.Calls.{machine-refused, machine-accepted}
 
 -- ---- consecutive numbers
 
@@ -48,9 +42,9 @@ pub rise-none : (a : ℕ) → Rise a [] a
 unfolding upFrom
 rise-none a = record { count = 0; following = refl; risen = omega arith }
 
-rise-one : (a k b : ℕ) → k ≡ a + 1 → b ≡ a + 1 → Rise a (k ∷ []) b
+rise-one : (a : ℕ) → Rise a ((a + 1) ∷ []) (a + 1)
 unfolding upFrom
-rise-one a k b e f = record { count = 1; following = ap {B = List ℕ} (λ x. x ∷ []) e; risen = f }
+rise-one a = record { count = 1; following = refl; risen = refl }
 
 pub rise-join : (a b c : ℕ) (x y : List ℕ) → Rise a x b → Rise b y c → Rise a (x ++ y) c
 rise-join a b c x y p q =
@@ -76,25 +70,20 @@ rise-distinct a b x p i j l r e = omega (arith, rise-at a b x p i (omega arith),
 
 -- ---- the seal numbers of one call
 
--- b that the editor accepts the seal, t that the machine does, k the number on the slip
-issued-choice : (m m′ : Machine) (k : ℕ) (b t : Bool) → b ≡ t → m′ .last ≡ m .last + 1 → (t ≡ true → k ≡ m .last + 1)
-    → Rise (m .last) (cond b (k ∷ []) []) (cond t m′ m .last)
-issued-choice m m′ k true true e l go = rise-one (m .last) k (m′ .last) (go refl) l
-issued-choice m m′ k true false e l go = absurd (true≢false e)
-issued-choice m m′ k false true e l go = absurd (false≢true e)
-issued-choice m m′ k false false e l go = rise-none (m .last)
+rise-accepted : (m : Machine) (c : Call) → Rise (m .last) (acceptedBy m c .issued) (acceptedBy m c .machine .last)
+unfolding acceptedBy withBytes withLast
+rise-accepted m (edit e) = rise-none (m .last)
+rise-accepted m (seal out) = rise-one (m .last)
+rise-accepted m (check slip) = rise-none (m .last)
 
-issued-seal : (key : List ℕ) (arm : ℕ) (st : State) (m : Machine) → Holds key arm st m → arm < 2 ^ 32 → (out : List ℕ)
-    → Rise (m .last) (issued st (seal out)) (step m (seal out) .last)
-unfolding issued step taken answerOf
-issued-seal key arm st m h w out =
-    let same : sealed st out .number ≡ machineNumber m (seal out) = answer-agrees st m (seal out) (h .same-n) (h .same-last) in
-    issued-choice m _ _ _ _ (ap (λ (x : ℕ). eqb x 0) same) refl (λ a. slip-number key arm st m h out (eqb-true _ 0 a) w)
+rise-refused : (m : Machine) (r : ℕ) → Rise (m .last) (refusedBy m r .issued) (refusedBy m r .machine .last)
+unfolding refusedBy
+rise-refused m r = rise-none (m .last)
 
-pub issued-call : (key : List ℕ) (arm : ℕ) (st : State) (m : Machine) → Holds key arm st m → arm < 2 ^ 32 → (c : Call)
-    → Rise (m .last) (issued st c) (step m c .last)
-unfolding issued taken
-issued-call key arm st m h w (edit e) =
-    edit-case (λ (x : State) (y : Machine). Rise (m .last) [] (y .last)) st m e (h .same-n) (rise-none (m .last)) (λ a z. rise-none (m .last))
-issued-call key arm st m h w (seal out) = issued-seal key arm st m h w out
-issued-call key arm st m h w (check slip) = rw (check-case m slip) (rise-none (m .last))
+rise-by : (m : Machine) (c : Call) → (machineRefusal m c ≡ 0) ⊎ (0 < machineRefusal m c)
+    → Rise (m .last) (machineAnswer m c .issued) (machineAnswer m c .machine .last)
+rise-by m c (inl z) = rw (machine-accepted m c z) (rise-accepted m c)
+rise-by m c (inr z) = rw (machine-refused m c (λ y. omega arith)) (rise-refused m (machineRefusal m c))
+
+pub rise-call : (m : Machine) (c : Call) → Rise (m .last) (machineAnswer m c .issued) (machineAnswer m c .machine .last)
+rise-call m c = rise-by m c (eq-zero-or-pos (machineRefusal m c))

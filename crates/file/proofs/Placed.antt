@@ -1,7 +1,6 @@
 -- How given bytes stand in the file's blocks: how many blocks they touch, the exponents of document 01's table as differences of block
 -- counts, the bound on them, and the sum of bytes at a place among zero bytes.
 -- Rests on field's laws of block counts (Horner) and of the sum (Sums), and on Accepted.
--- Assumes nothing.
 use mathlib.Core.Path.{_≡_, sym, ap, _∙_}
 use mathlib.Core.List.{List, _++_}
 use Prim.Native.Nat.{ℕ, _+_, _-_, _/_, _%_, _≤_, max}
@@ -10,7 +9,7 @@ use native.Mathlib.Omega.{arith}
 use lib.ListN.{length, replicate, length-append, length-replicate}
 use Rattle.field.specs.declared.blocks.Block.{Block}
 use Rattle.field.specs.Field.{_•_, power, sum, blocks}
-use Rattle.field.proofs.Horner.{blocks-value}
+use Rattle.field.proofs.BlockCounts.{blocks-value}
 use Rattle.field.proofs.Sums.{sum-trailing, sum-lead}
 use Rattle.file.specs.declared.geometry.Kind.{Kind}
 use Rattle.file.specs.declared.geometry.Kind.the-variants.{Change, Append, Prepend, DropFront, CutTail}

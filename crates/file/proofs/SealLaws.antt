@@ -1,82 +1,96 @@
--- Seal and check at a state that holds the machine's length, arm and last used number (`Invariant`): what an accepted seal's slip holds, and
--- what a genuine slip is. Its fields are by `SlipLaws`. Assumes nothing.
-use mathlib.Core.Path.{_≡_, refl, ap, _∙_}
-use mathlib.Core.Bool.{Bool, true, false, cond, false≢true}
+-- Seal and check at a state: what a genuine slip is (`Checked`), both ways, and that an accepted seal writes one, with the next number.
+-- It rests on the slip's fields (`SlipLaws`) and on what an accepted seal passed (`SealReturns`).
+use mathlib.Core.Path.{_≡_, refl, sym, ap₂, _∙_}
+use mathlib.Core.Bool.{Bool, true, false, cond, _&&_, false≢true}
 use mathlib.Core.List.{List}
 use Prim.Native.Nat.{ℕ, _+_, _≤_, _<_, _^_}
 use native.Mathlib.Omega.{arith}
-use lib.Dec.{eqb, ltb}
+use lib.Dec.{eqb}
 use lib.ListN.{length}
 use borrow.Author.Tests.{eqb-true, eq-eqb, le-ltb}
-use Rattle.field.specs.Field.{value, limit}
+use Rattle.refusals.proofs.Laws.{first-none, first-later, first-passed, agree, agreed}
+use Rattle.field.specs.Field.{value, maxBytes}
 use Rattle.field.proofs.Values.{value-lt}
 use Rattle.file.specs.declared.states.State.{State}
-use Rattle.file.specs.Slips.{slipBytes, slipVersion, slipLength, slipArm, slipSeal, slipTag, stateTag}
-use Rattle.file.specs.Slips.{sealNumber, openNumber, checkNumber, sealed, genuine}
-use Rattle.file.specs.Machine.{seal, Machine, callNumber, machineNumber}
-use Rattle.file.proofs.SlipLaws.{slip-back}
-use Rattle.file.proofs.Calls.{seal-room, seal-slip}
-use Rattle.file.proofs.Invariant.{Holds}
+use Rattle.file.specs.Slips.{slipBytes, slipVersion, slipLength, slipArm, slipNumber, slipTag, stateTag}
+use Rattle.file.specs.Slips.{openCauses, sealRefusal, sealedNext, checkRefusal, fitting, checked}
+use Rattle.file.proofs.SlipLaws.{ReadBack, slip-back}
+use Rattle.file.proofs.SealReturns.{seal-accepted}
+
+-- a byte list is genuine where it has 36 bytes and version 1, and the state's length, arm and tag under its own nonce
+pub record Checked (st : State) (slip : List ℕ) : Type 0 where
+  pub size : length slip ≡ slipBytes
+  pub version : slipVersion slip ≡ 1
+  pub same-length : slipLength slip ≡ st .n
+  pub same-arm : slipArm slip ≡ st .arm
+  pub tag : slipTag slip ≡ value (stateTag st (slipArm slip) (slipNumber slip))
 
 -- ---- an accepted seal
 
-module _ (key : List ℕ) (arm : ℕ) (st : State) (m : Machine) (h : Holds key arm st m)
-    (out : List ℕ) (a : machineNumber m (seal out) ≡ 0) where
-  -- the new number has 64 bits
-  pub seal-next : m .last + 1 < 2 ^ 64
-  unfolding machineNumber callNumber
-  seal-next = seal-room (length (m .bytes)) (m .last) out a (h .room)
+-- leaves room for its number
+pub seal-room : (n last : ℕ) (out : List ℕ) → sealRefusal n last out ≡ 0 → last < 2 ^ 64 → last + 1 < 2 ^ 64
+seal-room n last out a l =
+    let z = seal-accepted n last out a .room in
+    omega arith
 
-  -- the slip is written from the machine's length and its next number
-  pub slip-written : sealed st out .slip ≡ slipBytes (length (m .bytes)) arm (m .last + 1) (value (stateTag st arm (m .last + 1)))
-  unfolding machineNumber callNumber
-  slip-written =
-      let b : sealNumber (st .n) (st .last) out ≡ 0 = cc in
-      cc (seal-slip st out b)
+module _ (st : State) (out : List ℕ) (a : sealRefusal (st .n) (st .last) out ≡ 0) (w : st .arm < 2 ^ 32) (l : st .last < 2 ^ 64) where
+  read-back :
+      ReadBack (sealedNext st .slip) (st .n) (st .arm) (st .last + 1) (value (stateTag st (st .arm) (st .last + 1)))
+  unfolding sealedNext
+  read-back =
+      let n = seal-accepted (st .n) (st .last) out a .short in
+      slip-back (st .n) (st .arm) (st .last + 1) _ (omega arith) w (seal-room (st .n) (st .last) out a l) (value-lt _)
 
-  -- so it carries that number
-  pub slip-number : arm < 2 ^ 32 → slipSeal (sealed st out .slip) ≡ m .last + 1
-  slip-number w =
-      let n : length (m .bytes) < 2 ^ 61 = omega arith in
-      ap slipSeal slip-written ∙ slip-back (length (m .bytes)) arm (m .last + 1) _ n w seal-next (value-lt _) .seal-is
+  -- its slip carries the next number
+  pub next-number : slipNumber (sealedNext st .slip) ≡ st .last + 1
+  next-number = read-back .number-is
+
+  -- and is genuine
+  pub next-checked : Checked st (sealedNext st .slip)
+  next-checked =
+      let b = read-back in
+      record {
+        size = b .size;
+        version = b .version;
+        same-length = b .length-is;
+        same-arm = b .arm-is;
+        tag = b .tag-is ∙ ap₂ (λ (x y : ℕ). value (stateTag st x y)) (sym (b .arm-is)) (sym (b .number-is));
+      }
 
 -- ---- check
 
 -- the tests of check: every one holds of a genuine slip
-all-true : (a b c d : Bool) → cond a (cond b (cond c d false) false) false ≡ true → (a ≡ true) × (b ≡ true) × (c ≡ true) × (d ≡ true)
+all-true : (a b c d : Bool) → cond a (b && c && d) false ≡ true → (a ≡ true) × (b ≡ true) × (c ≡ true) × (d ≡ true)
 all-true true true true d e = (refl, refl, refl, e)
 all-true true true false d e = absurd (false≢true e)
 all-true true false c d e = absurd (false≢true e)
 all-true false b c d e = absurd (false≢true e)
 
-open-choice : (a b c : Bool) → cond {A = ℕ} a 2 (cond b (cond c 0 8) 7) ≡ 0 → (b ≡ true) × (c ≡ true)
-open-choice true b c e = absurd (omega arith)
-open-choice false true true e = (refl, refl)
-open-choice false true false e = absurd (omega arith)
-open-choice false false c e = absurd (omega arith)
+check-opens : (n : ℕ) (slip : List ℕ) → checkRefusal n slip ≡ 0 → (length slip ≡ slipBytes) × (slipVersion slip ≡ 1)
+unfolding checkRefusal openCauses
+check-opens n slip e =
+    let s = first-passed _ _ _ (first-passed _ _ _ e (omega arith) .1) (omega arith) in
+    (agreed _ _ (s .0), agreed _ _ (first-passed _ _ _ (s .1) (omega arith) .0))
 
--- a byte list is genuine where it has 36 bytes and version 1, and the state's length, arm and tag under its own nonce
-pub record Checked (st : State) (slip : List ℕ) : Type 0 where
-  pub size : length slip ≡ 36
-  pub version : slipVersion slip ≡ 1
-  pub count : slipLength slip ≡ st .n
-  pub same-arm : slipArm slip ≡ st .arm
-  pub tag : slipTag slip ≡ value (stateTag st (slipArm slip) (slipSeal slip))
-
-pub genuine-checked : (st : State) (slip : List ℕ) → genuine st slip ≡ true → Checked st slip
-unfolding genuine checkNumber openNumber
+pub genuine-checked : (st : State) (slip : List ℕ) → checked st slip .genuine ≡ true → Checked st slip
+unfolding checked fitting
 genuine-checked st slip e =
     let t = all-true _ (eqb (slipLength slip) (st .n)) (eqb (slipArm slip) (st .arm)) _ e in
-    let o = open-choice (ltb limit (st .n)) (eqb (length slip) 36) (eqb (slipVersion slip) 1) (eqb-true _ 0 (t .0)) in
+    let o = check-opens (st .n) slip (eqb-true _ 0 (t .0)) in
     record {
-      size = eqb-true _ _ (o .0);
-      version = eqb-true _ _ (o .1);
-      count = eqb-true _ _ (t .1);
+      size = o .0;
+      version = o .1;
+      same-length = eqb-true _ _ (t .1);
       same-arm = eqb-true _ _ (t .2);
       tag = eqb-true _ _ (t .3);
     }
 
-pub checked-genuine : (st : State) (slip : List ℕ) → st .n ≤ limit → Checked st slip → genuine st slip ≡ true
-unfolding genuine checkNumber openNumber
+check-accepted : (st : State) (slip : List ℕ) → st .n ≤ maxBytes → Checked st slip → 0 ≡ checkRefusal (st .n) slip
+unfolding checkRefusal openCauses
+check-accepted st slip l k =
+    first-later _ _ _ (le-ltb _ _ l) (first-later _ _ _ (agree (k .size)) (first-later _ _ _ (agree (k .version)) first-none))
+
+pub checked-genuine : (st : State) (slip : List ℕ) → st .n ≤ maxBytes → Checked st slip → checked st slip .genuine ≡ true
+unfolding checked fitting
 checked-genuine st slip l k =
-    rw (le-ltb limit (st .n) l, eq-eqb _ _ (k .size), eq-eqb _ _ (k .version), eq-eqb _ _ (k .count), eq-eqb _ _ (k .same-arm), eq-eqb _ _ (k .tag))
+    rw (← check-accepted st slip l k, eq-eqb _ _ (k .same-length), eq-eqb _ _ (k .same-arm), eq-eqb _ _ (k .tag))

@@ -1,23 +1,22 @@
 -- Document 01's bench cases, those marked with a star, as one statement about the definitions. Its proof is in proofs/BenchCases.
--- Assumes nothing.
 use mathlib.Core.Path.{_≡_}
 use mathlib.Core.List.{List, [], _∷_}
 use Prim.Native.Nat.{ℕ, _^_, _<_}
 use lib.ListN.{length, take}
-use Rattle.field.specs.Field.{Cases}
+use Rattle.field.specs.Field.{FieldBench}
 use Rattle.file.specs.declared.states.State.{State}
 use Rattle.file.specs.Edits.{Edit, change, append, prepend, dropFront, cutTail}
 use Rattle.file.specs.States.{edited}
-use Rattle.file.specs.Slips.{slipBytes}
+use Rattle.file.specs.Slips.{packedSlip}
 
 -- an edit of a file of 40 bytes is accepted, whatever else the state holds, and reports this count (document 01, "Bench cases")
 unfoldable pub Counts : Edit → ℕ → Type 0
-Counts e count = (st : State) → st .n ≡ 40 → (edited st e .number ≡ 0) × (edited st e .count ≡ count)
+Counts e count = (st : State) → st .n ≡ 40 → (edited st e .refusal ≡ 0) × (edited st e .count ≡ count)
 
 -- the cases marked with a star, one statement (document 01, "Bench cases")
 pub record BenchCases : Type 0 where
   -- those of the field alone: products, hashes and seek steps
-  pub field : Cases
+  pub field : FieldBench
   -- n = 40: change byte 17; bytes 15 and 16
   pub change-17 : (old new : List ℕ) → length old ≡ 1 → length new ≡ 1 → Counts (change 17 old new) 3
   pub change-15-16 : (old new : List ℕ) → length old ≡ 2 → length new ≡ 2 → Counts (change 15 old new) 4
@@ -33,4 +32,4 @@ pub record BenchCases : Type 0 where
   pub cut-40 : (s : List ℕ) → length s ≡ 40 → Counts (cutTail s) 7
   -- version 1, length 40, arm 7, number 1, whatever the tag
   pub slip-begins :
-      (tag : ℕ) → tag < 2 ^ 128 → take 12 (slipBytes 40 7 1 tag) ≡ 0x20 ∷ 0 ∷ 0 ∷ 0 ∷ 0 ∷ 0 ∷ 0 ∷ 0x28 ∷ 0 ∷ 0 ∷ 0 ∷ 7 ∷ []
+      (tag : ℕ) → tag < 2 ^ 128 → take 12 (packedSlip 40 7 1 tag) ≡ 0x20 ∷ 0 ∷ 0 ∷ 0 ∷ 0 ∷ 0 ∷ 0 ∷ 0x28 ∷ 0 ∷ 0 ∷ 0 ∷ 7 ∷ []

@@ -1,67 +1,105 @@
--- Demands 2 and 3 as statements (document 01, "Slip, seal, check" and "The file and its five edits"). Their proofs are in proofs/Demand2
--- and proofs/Demand3.
--- Assumes nothing.
+-- The three demands, whole. Their proofs are `demand-1`, `demand-2` and `demand-3` in proofs/Demand1, Demand2 and Demand3.
 use mathlib.Core.Path.{_≡_}
 use mathlib.Core.Bool.{true}
 use mathlib.Core.Logic.{_↔_, _≢_}
-use mathlib.Core.List.{List}
-use Prim.Native.Nat.{ℕ, _+_, _≤_, _<_}
+use mathlib.Core.List.{List, [], _∷_}
+use Prim.Native.Nat.{ℕ, zero, suc, _+_, _≤_, _<_, _^_}
 use lib.ListN.{length, getD}
-use Rattle.field.specs.Field.{value, limit}
+use Rattle.field.specs.Field.{value, maxBytes}
+use Rattle.gcm.specs.Gcm.{gmac, tagOf}
 use Rattle.file.specs.declared.states.State.{State}
-use Rattle.file.specs.Tags.{gmac, tagOf}
-use Rattle.file.specs.States.{readFile}
-use Rattle.file.specs.Slips.{slipVersion, slipLength, slipArm, slipSeal, slipTag, nonceOf, sealed, checked}
-use Rattle.file.specs.Machine.{Call, seal, machineNumber}
-use Rattle.file.specs.Runs.{Run, upFrom, fromStart}
+use Rattle.file.specs.States.{keyOf, zeroState, Start, Reading, beginRefusal, started, readFile}
+use Rattle.file.specs.Slips.{slipBytes, slipVersion, slipLength, slipArm, slipNumber, slipTag, nonceOf, sealed, checked}
+use Rattle.file.specs.Calls.{Call, seal, callRefusal, lentSlip, callAnswer}
+use Rattle.file.specs.Machine.{machineRefusal}
+use Rattle.file.specs.Runs.{Run, fromStart, fromRead}
+
+-- ---- demand 1
+
+-- every call answers the first of its listed causes or 0; a refused call on a state leaves it and a lent slip as they were, and a refused
+-- start or read gives the state of all zeros (document 01, "Causes and their numbers" and "The file and its five edits")
+pub record Demand1 : Type 0 where
+  pub causes : (st : State) (c : Call) → callAnswer st c .refusal ≡ callRefusal (st .n) (st .last) c
+  pub kept : (st : State) (c : Call) → callAnswer st c .refusal ≢ 0 → (callAnswer st c .state ≡ st) × (callAnswer st c .slip ≡ lentSlip c)
+  pub uncounted : (st : State) (c : Call) → callAnswer st c .refusal ≢ 0 → (callAnswer st c .count ≡ 0) × (callAnswer st c .issued ≡ [])
+  pub start-causes : (s : Start) → started s .refusal ≡ beginRefusal (s .key) (s .n)
+  pub start-zeros : (s : Start) → started s .refusal ≢ 0 → started s .state ≡ zeroState
+  pub read-causes : (r : Reading) → readFile r .refusal ≡ beginRefusal (r .key) (length (r .file))
+  pub read-zeros : (r : Reading) → readFile r .refusal ≢ 0 → readFile r .state ≡ zeroState
+
+-- ---- what demands 2 and 3 begin with
+
+-- an accepted start, of an arm and a last used number that have room on a slip (document 01, "What the controller holds")
+pub record AcceptedStart (s : Start) : Type 0 where
+  pub accepted : started s .refusal ≡ 0
+  pub arm : s .arm < 2 ^ 32
+  pub last : s .last < 2 ^ 64
+
+-- an accepted read, of the same
+pub record AcceptedRead (r : Reading) : Type 0 where
+  pub accepted : readFile r .refusal ≡ 0
+  pub arm : r .arm < 2 ^ 32
+  pub last : r .last < 2 ^ 64
+
+-- ---- demand 2
 
 -- a byte list is a slip of an arm's file (document 01, "Slip, seal, check"): 36 bytes, version 1, that length, that arm, and GMAC of the
 -- bytes under the slip's own nonce
 pub record SlipOf (key : List ℕ) (arm : ℕ) (bytes slip : List ℕ) : Type 0 where
-  pub size : length slip ≡ 36
+  pub size : length slip ≡ slipBytes
   pub version : slipVersion slip ≡ 1
-  pub count : slipLength slip ≡ length bytes
+  pub same-length : slipLength slip ≡ length bytes
   pub same-arm : slipArm slip ≡ arm
-  pub tag : slipTag slip ≡ value (gmac key (nonceOf (slipArm slip) (slipSeal slip)) bytes)
+  pub tag : slipTag slip ≡ value (gmac key (nonceOf (slipArm slip) (slipNumber slip)) bytes)
 
--- demand 2 of a run (document 01, "Slip, seal, check"): what an accepted seal writes is a slip of the bytes held and carries the next number,
--- and a byte list is genuine exactly where it is a slip of them
+-- of a run (document 01, "Slip, seal, check"): what an accepted seal writes is a slip of the bytes held and carries the next number, and
+-- a byte list is genuine exactly where it is a slip of them
 pub record Sealing (key : List ℕ) (arm : ℕ) (r : Run) : Type 0 where
-  pub seals : (out : List ℕ) → machineNumber (r .machine) (seal out) ≡ 0 → SlipOf key arm (r .machine .bytes) (sealed (r .state) out .slip)
-  pub numbers : (out : List ℕ) → machineNumber (r .machine) (seal out) ≡ 0 → slipSeal (sealed (r .state) out .slip) ≡ r .machine .last + 1
+  pub seals : (out : List ℕ) → machineRefusal (r .machine) (seal out) ≡ 0 → SlipOf key arm (r .machine .bytes) (sealed (r .state) out .slip)
+  pub numbers : (out : List ℕ) → machineRefusal (r .machine) (seal out) ≡ 0 → slipNumber (sealed (r .state) out .slip) ≡ r .machine .last + 1
   pub checks : (slip : List ℕ) → (checked (r .state) slip .genuine ≡ true) ↔ SlipOf key arm (r .machine .bytes) slip
+
+-- after any list of calls that were true as they arrived, from an accepted start and from an accepted read (document 01, "Slip, seal, check")
+pub record Demand2 : Type 0 where
+  pub start : (s : Start) → AcceptedStart s → (calls : List Call) → fromStart s calls .truth → Sealing (s .key) (s .arm) (fromStart s calls)
+  pub read : (r : Reading) → AcceptedRead r → (calls : List Call) → fromRead r calls .truth → Sealing (r .key) (r .arm) (fromRead r calls)
+
+-- ---- demand 3
 
 -- one read of bytes agrees with an editor's state (document 01, "The file and its five edits"): it is accepted and has the state's sum,
 -- length and tag under every nonce
-pub record Read (key : List ℕ) (arm last : ℕ) (bytes : List ℕ) (st : State) : Type 0 where
-  pub accepted : readFile key arm last bytes .number ≡ 0
-  pub sum : st .s ≡ readFile key arm last bytes .state .s
-  pub count : st .n ≡ readFile key arm last bytes .state .n
+pub record ReaderAgrees (r : Reading) (st : State) : Type 0 where
+  pub accepted : readFile r .refusal ≡ 0
+  pub sum : st .s ≡ readFile r .state .s
+  pub same-length : st .n ≡ readFile r .state .n
   pub tag :
-      (nonce : List ℕ) → 1 ≤ length nonce → length nonce ≤ limit
-      → tagOf (st .key .bytes) (st .h) (st .s) (st .n) nonce
-      ≡ tagOf (readFile key arm last bytes .state .key .bytes) (readFile key arm last bytes .state .h) (readFile key arm last bytes .state .s)
-      (readFile key arm last bytes .state .n) nonce
+      (nonce : List ℕ) → 1 ≤ length nonce → length nonce ≤ maxBytes
+      → let reader = readFile r .state in
+      tagOf (keyOf st) (st .h) (st .s) (st .n) nonce ≡ tagOf (keyOf reader) (reader .h) (reader .s) (reader .n) nonce
 
--- demand 3 of a list of calls from an accepted start, a field for each clause (document 01, "The file and its five edits")
-pub record TwoRuns (key : List ℕ) (arm last n : ℕ) (calls : List Call) : Type 0 where
+-- a, a + 1, .., of which there are k; it serves the next statement alone
+unfoldable pub upFrom : ℕ → ℕ → List ℕ
+upFrom a zero = []
+upFrom a (suc k) = a ∷ upFrom (a + 1) k
+
+-- of a run from a start, a field for each clause (document 01, "The file and its five edits")
+pub record TwoRuns (s : Start) (r : Run) : Type 0 where
   -- the controller refuses exactly what the plain machine refuses, with the same numbers
-  pub refusals : fromStart key arm last n calls .answers ≡ fromStart key arm last n calls .expected
+  pub refusals : r .refusals ≡ r .machineRefusals
   -- lengths and last used numbers agree
-  pub lengths : fromStart key arm last n calls .state .n ≡ length (fromStart key arm last n calls .machine .bytes)
-  pub lasts : fromStart key arm last n calls .state .last ≡ fromStart key arm last n calls .machine .last
+  pub lengths : r .state .n ≡ length (r .machine .bytes)
+  pub lasts : r .state .last ≡ r .machine .last
   -- the reported total is the machine's sum of q + seek(k) + 1, and no edit reports more than q + 2b
-  pub total : fromStart key arm last n calls .total ≡ fromStart key arm last n calls .owed
-  pub within : fromStart key arm last n calls .within
-  -- the accepted seals' numbers are last + 1, last + 2, .., and none stands twice
-  pub numbers :
-      fromStart key arm last n calls .numbers ≡ upFrom (last + 1) (length (fromStart key arm last n calls .numbers))
-  -- as many as the last used number rose
-  pub issues : fromStart key arm last n calls .machine .last ≡ last + length (fromStart key arm last n calls .numbers)
-  pub distinct :
-      (i j : ℕ) → i < j → j < length (fromStart key arm last n calls .numbers)
-      → getD (fromStart key arm last n calls .numbers) i 0 ≢ getD (fromStart key arm last n calls .numbers) j 0
+  pub total : r .total ≡ r .machineTotal
+  pub within : r .within
+  -- the accepted seals' numbers are last + 1, last + 2, .., as many as the last used number rose, and none stands twice
+  pub numbers : r .numbers ≡ upFrom (s .last + 1) (length (r .numbers))
+  pub issues : r .machine .last ≡ s .last + length (r .numbers)
+  pub distinct : (i j : ℕ) → i < j → j < length (r .numbers) → getD (r .numbers) i 0 ≢ getD (r .numbers) j 0
   -- where every old or removed byte named in an accepted edit was the byte there, one read of the final bytes agrees
   pub reader :
-      fromStart key arm last n calls .truth
-      → (arm′ last′ : ℕ) → Read key arm′ last′ (fromStart key arm last n calls .machine .bytes) (fromStart key arm last n calls .state)
+      r .truth → (arm last : ℕ) → ReaderAgrees (record { key = s .key; arm = arm; last = last; file = r .machine .bytes }) (r .state)
+
+-- after any list of calls from any accepted start (document 01, "The file and its five edits")
+unfoldable pub Demand3 : Type 0
+Demand3 = (s : Start) → AcceptedStart s → (calls : List Call) → TwoRuns s (fromStart s calls)

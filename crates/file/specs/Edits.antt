@@ -1,17 +1,14 @@
 -- The five edits and what each does to lengths (document 01, "The file and its five edits"): from the kind, the place p, the lengths of
 -- the given bytes and the file's length n alone.
--- Assumes nothing.
-use mathlib.Core.Bool.{cond}
-use mathlib.Core.List.{List, []}
-use Prim.Native.Nat.{ℕ, _+_, _-_, _/_, _%_}
+use mathlib.Core.Bool.{Bool, cond, not}
+use mathlib.Core.List.{List, [], _∷_}
+use Prim.Native.Nat.{ℕ, _+_, _-_, _*_, _/_, _%_, max}
 use lib.Dec.{eqb, ltb}
 use lib.ListN.{length}
 use Rattle.file.specs.declared.geometry.Kind.{Kind}
 use Rattle.file.specs.declared.geometry.Kind.the-variants.{Change, Append, Prepend, DropFront, CutTail}
-use Rattle.file.specs.declared.geometry.Measured.{Measured}
-use Rattle.file.specs.declared.geometry.Measured.the-variants as measured
-use Rattle.field.specs.Field.{blocks, steps, limit}
-use Rattle.file.specs.Causes.{causeNumber}
+use Rattle.refusals.specs.Refusals.{first}
+use Rattle.field.specs.Field.{blocks, steps, width, maxBytes}
 
 -- an edit with its own bytes (document 01, "The file and its five edits")
 pub data Edit : Type 0 where
@@ -53,17 +50,18 @@ replacing (prepend s) = []
 replacing (dropFront s) = []
 replacing (cutTail s) = []
 
--- the refusal's number or 0, in the order of document 01, "Causes and their numbers": l bytes are given, of a change r new ones
-unfoldable pub editNumber : Kind → (p l r n : ℕ) → ℕ
-editNumber Change p l r n = cond (eqb l r) (cond (ltb n (p + l)) 3 0) 4
-editNumber Append p l r n = cond (ltb limit (n + l)) 2 0
-editNumber Prepend p l r n = cond (eqb (l % 16) 0) (cond (ltb limit (n + l)) 2 0) 5
-editNumber DropFront p l r n = cond (eqb (l % 16) 0) (cond (ltb n l) 3 0) 5
-editNumber CutTail p l r n = cond (ltb n l) 3 0
+-- the causes for which a kind of edit is refused, in their order (document 01, "Causes and their numbers"): l bytes are given, of a change r
+-- new ones
+unfoldable pub kindCauses : Kind → (p l r n : ℕ) → List (Bool × ℕ)
+kindCauses Change p l r n = (not (eqb l r), 4) ∷ (ltb n (p + l), 3) ∷ []
+kindCauses Append p l r n = (ltb maxBytes (n + l), 2) ∷ []
+kindCauses Prepend p l r n = (not (eqb (l % 16) 0), 5) ∷ (ltb maxBytes (n + l), 2) ∷ []
+kindCauses DropFront p l r n = (not (eqb (l % 16) 0), 5) ∷ (ltb n l, 3) ∷ []
+kindCauses CutTail p l r n = (ltb n l, 3) ∷ []
 
--- the refusal, or 0: 2 for a length n that passes the limit comes before all else (document 01, "The file and its five edits")
-unfoldable pub refusalFor : Kind → (p l r n : ℕ) → ℕ
-refusalFor kind p l r n = cond (ltb limit n) 2 (editNumber kind p l r n)
+-- the refusal: 2 for a length n that passes the limit comes before all else (document 01, "The file and its five edits")
+unfoldable pub kindRefusal : Kind → (p l r n : ℕ) → ℕ
+kindRefusal kind p l r n = first ((ltb maxBytes n, 2) ∷ kindCauses kind p l r n)
 
 -- the place in the file where the given bytes stand (document 01, "The file and its five edits")
 unfoldable pub standsAt : Kind → (p l n : ℕ) → ℕ
@@ -94,39 +92,45 @@ exponent Prepend p l n = blocks n
 exponent DropFront p l n = blocks n - touched 0 l
 exponent CutTail p l n = blocks n - blocks (n - l)
 
--- what an edit does to lengths (document 01, "The file and its five edits"): the refusal's number or 0, and for an accepted edit of at
--- least one byte how many zero bytes stand before the given ones in their first block, q, k and the length afterwards
+-- what an edit does to lengths (document 01, "The file and its five edits"): the refusal or 0; of an accepted edit of at least one byte
+-- how many zero bytes stand before the given ones in their first block, q and k; and the length afterwards
 pub record Geometry : Type 0 where
-  pub number : ℕ
+  pub refusal : ℕ
   pub lead : ℕ
   pub q : ℕ
   pub k : ℕ
   pub n : ℕ
 
--- what an edit of l bytes at p does so to a file of n bytes, r the new bytes of a change (document 01, "The file and its five edits");
--- one of no bytes touches no block
+-- of an edit that touches no block (document 01, "The file and its five edits"): one that is refused, or one of no bytes
+abbrev pub untouched : (refusal n : ℕ) → Geometry
+untouched refusal n = record { refusal = refusal; lead = 0; q = 0; k = 0; n = n }
+
+-- what an edit of l bytes at p does so to a file of n bytes, r the new bytes of a change (document 01, "The file and its five edits")
 unfoldable pub geometry : Kind → (p l r n : ℕ) → Geometry
 geometry kind p l r n =
-    cond (eqb (refusalFor kind p l r n) 0)
-    (cond (eqb l 0) (record { number = 0; lead = 0; q = 0; k = 0; n = n })
+    cond (eqb (kindRefusal kind p l r n) 0)
+    (cond (eqb l 0) (untouched 0 n)
     (record {
-      number = 0;
+      refusal = 0;
       lead = standsAt kind p l n % 16;
       q = touched (standsAt kind p l n) l;
       k = exponent kind p l n;
       n = lengthAfter kind l n;
     }))
-    (record { number = refusalFor kind p l r n; lead = 0; q = 0; k = 0; n = 0 })
+    (untouched (kindRefusal kind p l r n) n)
 
 -- the same of an edit with its bytes (document 01, "The file and its five edits")
 unfoldable pub geometryAt : ℕ → Edit → Geometry
 geometryAt n e = geometry (kindOf e) (placeOf e) (length (given e)) (length (replacing e)) n
 
+-- the refusal of an edit of a file of n bytes (document 01, "Causes and their numbers")
+unfoldable pub editRefusal : ℕ → Edit → ℕ
+editRefusal n e = geometryAt n e .refusal
+
 -- the count: q + seek(k) + 1, and 0 where no block is touched (document 01, "The file and its five edits")
 unfoldable pub countOf : Geometry → ℕ
 countOf g = cond (eqb (g .q) 0) 0 (g .q + steps (g .k) + 1)
 
--- the crate's answer read so; it serves contracts alone
-abbrev pub geometryOf : Measured → Geometry
-geometryOf (measured.Refused c) = record { number = causeNumber c; lead = 0; q = 0; k = 0; n = 0 }
-geometryOf (measured.Fits s) = record { number = 0; lead = s .lead; q = s .q; k = s .k; n = s .n }
+-- q + 2b, b the width of the larger of the block counts before, of n bytes, and after (document 01, "The file and its five edits")
+unfoldable pub countLimit : ℕ → Geometry → ℕ
+countLimit n g = g .q + 2 * width (max (blocks n) (blocks (g .n)))

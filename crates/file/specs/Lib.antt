@@ -1,10 +1,12 @@
-pub mod Causes
-pub mod Tags
+-- The definitions, from the bottom up; `Contracts` is what serves contracts alone.
 pub mod Edits
 pub mod Table
 pub mod States
 pub mod Slips
+pub mod Calls
 pub mod Machine
 pub mod Runs
 pub mod Demands
+pub mod Met
 pub mod BenchCases
+pub mod Contracts

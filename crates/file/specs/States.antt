@@ -1,38 +1,29 @@
 -- Start, read and the edits for all inputs (document 01, "The file and its five edits"), over the state's fields.
--- Assumes nothing.
-use mathlib.Core.Bool.{cond}
-use mathlib.Core.List.{List}
+use mathlib.Core.Bool.{cond, not}
+use mathlib.Core.List.{List, [], _∷_}
 use Prim.Native.Nat.{ℕ}
-use lib.Dec.{eqb, leb}
+use lib.Dec.{eqb, ltb}
 use lib.ListN.{length, replicate}
+use Rattle.refusals.specs.Refusals.{first}
 use Rattle.cipher.specs.Aes.{keyFits}
 use Rattle.field.specs.declared.blocks.Block.{Block}
-use Rattle.field.specs.Field.{nil, companion, sum, limit}
+use Rattle.field.specs.Field.{zeroBlock, companion, sum, maxBytes}
+use Rattle.gcm.specs.Gcm.{hashKey}
 use Rattle.file.specs.declared.states.State.{State}
-use Rattle.file.specs.declared.states.Edited.{Edited}
-use Rattle.file.specs.Causes.{outcomeNumber, outcomeCount}
-use Rattle.file.specs.Tags.{hashKey}
 use Rattle.file.specs.declared.geometry.Kind.{Kind}
 use Rattle.file.specs.Edits.{Edit, kindOf, given, replacing, Geometry, geometryAt, countOf}
 use Rattle.file.specs.Table.{placedSum, newSum}
 
--- what a call on a state answers: the state afterwards, the refusal's number (document 01, "Causes and their numbers") or 0, and the count
-pub record StateAnswer : Type 0 where
-  pub state : State
-  pub number : ℕ
-  pub count : ℕ
+-- ---- what a state holds
 
--- a crate's answer read so; it serves contracts alone
-abbrev pub stateAnswer : Edited → StateAnswer
-stateAnswer r = record { state = r .state; number = outcomeNumber (r .outcome); count = outcomeCount (r .outcome) }
+-- the key of a state (document 01, "What the controller holds")
+unfoldable pub keyOf : State → List ℕ
+keyOf st = st .key .bytes
 
--- the answer that refuses with a number and gives a state (document 01, "Causes and their numbers"); it reports no count
-abbrev pub refused : State → ℕ → StateAnswer
-refused st number = record { state = st; number = number; count = 0 }
-
--- the answer that accepts, with a state and a count (document 01, "The file and its five edits")
-abbrev pub accepted : State → ℕ → StateAnswer
-accepted st count = record { state = st; number = 0; count = count }
+-- the state for a key, with its H and I, a sum and a length (document 01, "What the controller holds" and "Field")
+unfoldable pub stateOf : (key : List ℕ) (s : Block) (n arm last : ℕ) → State
+stateOf key s n arm last =
+    record { key = record { bytes = key }; h = hashKey key; i = companion (hashKey key); s = s; n = n; arm = arm; last = last }
 
 -- the state of all zeros, which a refused start or read gives (document 01, "The file and its five edits")
 unfoldable pub zeroState : State
@@ -47,42 +38,88 @@ zeroState =
       last = 0;
     }
 
--- the state for a key, with its H and I, a sum and a length (document 01, "What the controller holds" and "Field")
-unfoldable pub stateOf : (key : List ℕ) (s : Block) (n arm last : ℕ) → State
-stateOf key s n arm last =
-    record { key = record { bytes = key }; h = hashKey key; i = companion (hashKey key); s = s; n = n; arm = arm; last = last }
+-- ---- what a call on a state answers
 
--- a state with its sum and length replaced, as an accepted edit leaves it (document 01, "The file and its five edits")
-unfoldable pub moved : State → Block → ℕ → State
-moved st s n = record { key = st .key; h = st .h; i = st .i; s = s; n = n; arm = st .arm; last = st .last }
+-- the state afterwards, the refusal (document 01, "Causes and their numbers") or 0, and the count
+pub record StateAnswer : Type 0 where
+  pub state : State
+  pub refusal : ℕ
+  pub count : ℕ
 
--- start: refused with 1 and 2 in that order, else n zero bytes with S = 0 (document 01, "The file and its five edits")
-unfoldable pub started : (key : List ℕ) (arm last n : ℕ) → StateAnswer
-started key arm last n =
-    cond (keyFits key) (cond (leb n limit) (accepted (stateOf key nil n arm last) 0) (refused zeroState 2)) (refused zeroState 1)
+-- refused, with a state (document 01, "Causes and their numbers"); no count is reported
+abbrev pub refusedWith : State → ℕ → StateAnswer
+refusedWith st refusal = record { state = st; refusal = refusal; count = 0 }
 
--- read: the same for a lent file, with S that file's sum (document 01, "The file and its five edits")
-unfoldable pub readFile : (key : List ℕ) (arm last : ℕ) (file : List ℕ) → StateAnswer
-readFile key arm last file =
-    cond (keyFits key)
-    (cond (leb (length file) limit) (accepted (stateOf key (sum (hashKey key) file) (length file) arm last) 0) (refused zeroState 2))
-    (refused zeroState 1)
+-- accepted, with a state and a count (document 01, "The file and its five edits")
+abbrev pub acceptedWith : State → ℕ → StateAnswer
+acceptedWith st count = record { state = st; refusal = 0; count = count }
 
--- the sum of a state after an edit of at least one byte: the table over the state's fields (document 01, "The file and its five edits")
+-- ---- start and read
+
+-- start's arguments (document 01, "The file and its five edits")
+pub record Start : Type 0 where
+  pub key : List ℕ
+  pub arm : ℕ
+  pub last : ℕ
+  pub n : ℕ
+
+-- read's: a lent file in place of n (document 01, "The file and its five edits")
+pub record Reading : Type 0 where
+  pub key : List ℕ
+  pub arm : ℕ
+  pub last : ℕ
+  pub file : List ℕ
+
+-- the refusal of start and read, by the key and the file's length: 1, 2 (document 01, "Causes and their numbers")
+unfoldable pub beginRefusal : (key : List ℕ) (n : ℕ) → ℕ
+beginRefusal key n = first ((not (keyFits key), 1) ∷ (ltb maxBytes n, 2) ∷ [])
+
+-- what start and read answer, by their refusal and the state that they make where accepted (document 01, "The file and its five edits")
+unfoldable pub begunWith : ℕ → State → StateAnswer
+begunWith refusal st = cond (eqb refusal 0) (acceptedWith st 0) (refusedWith zeroState refusal)
+
+-- start: n zero bytes with S = 0 (document 01, "The file and its five edits")
+unfoldable pub started : Start → StateAnswer
+started s = begunWith (beginRefusal (s .key) (s .n)) (stateOf (s .key) zeroBlock (s .n) (s .arm) (s .last))
+
+-- read: a lent file, with S that file's sum (document 01, "The file and its five edits")
+unfoldable pub readFile : Reading → StateAnswer
+readFile r =
+    begunWith (beginRefusal (r .key) (length (r .file)))
+    (stateOf (r .key) (sum (hashKey (r .key)) (r .file)) (length (r .file)) (r .arm) (r .last))
+
+-- ---- the edits: asked, then put
+
+-- what an edit asks for (document 01, "The file and its five edits"): the refusal or 0, and the new sum, length and count; one that is refused
+-- or of no bytes leaves sum and length and counts 0
+pub record AskAnswer : Type 0 where
+  pub refusal : ℕ
+  pub s : Block
+  pub n : ℕ
+  pub count : ℕ
+
+-- the new sum (document 01, "The file and its five edits"): the table over the state's fields, where a block is touched
 unfoldable pub sumAfter : State → Kind → Geometry → (a b : List ℕ) → Block
-sumAfter st kind g a b = newSum kind (st .h) (st .i) (st .s) (placedSum (st .h) (g .lead) a b) (g .k)
+sumAfter st kind g a b =
+    cond (eqb (g .q) 0) (st .s) (newSum kind (st .h) (st .i) (st .s) (placedSum (st .h) (g .lead) a b) (g .k))
 
--- an edit of a kind (document 01, "The file and its five edits"), with given bytes a and of a change new bytes b, by what it does to lengths:
--- refused, or accepted; one of no bytes changes nothing
-unfoldable pub editedBy : State → Kind → Geometry → (a b : List ℕ) → StateAnswer
-editedBy st kind g a b =
-    cond (eqb (g .number) 0) (cond (eqb (g .q) 0) (accepted st 0) (accepted (moved st (sumAfter st kind g a b) (g .n)) (countOf g)))
-    (refused st (g .number))
+-- an edit of a kind asked for, with given bytes a and of a change new bytes b, by what it does to lengths (document 01, "The file and its
+-- five edits")
+unfoldable pub askedBy : State → Kind → Geometry → (a b : List ℕ) → AskAnswer
+askedBy st kind g a b = record { refusal = g .refusal; s = sumAfter st kind g a b; n = g .n; count = countOf g }
 
--- the refusal of an edit at a length, or 0 (document 01, "Causes and their numbers")
-unfoldable pub refusalOf : ℕ → Edit → ℕ
-refusalOf n e = geometryAt n e .number
+-- an edit asked for (document 01, "The file and its five edits")
+unfoldable pub asked : State → Edit → AskAnswer
+asked st e = askedBy st (kindOf e) (geometryAt (st .n) e) (given e) (replacing e)
 
--- an edit, for all five kinds (document 01, "The file and its five edits")
+-- a state with a new sum and length (document 01, "The file and its five edits")
+unfoldable pub put : State → Block → ℕ → State
+put st s n = record { key = st .key; h = st .h; i = st .i; s = s; n = n; arm = st .arm; last = st .last }
+
+-- what was asked for, put into the state where it is not refused (document 01, "The file and its five edits")
+unfoldable pub putWith : State → AskAnswer → StateAnswer
+putWith st a = cond (eqb (a .refusal) 0) (acceptedWith (put st (a .s) (a .n)) (a .count)) (refusedWith st (a .refusal))
+
+-- an edit, for all five kinds: asked, then put (document 01, "The file and its five edits")
 unfoldable pub edited : State → Edit → StateAnswer
-edited st e = editedBy st (kindOf e) (geometryAt (st .n) e) (given e) (replacing e)
+edited st e = putWith st (asked st e)

@@ -1,5 +1,4 @@
 -- The table of edits, row by row (document 01, "The file and its five edits"): the new sum from S, W, H, I and k.
--- Assumes nothing.
 use mathlib.Core.List.{List, _++_}
 use Prim.Native.Nat.{ℕ}
 use lib.ListN.{replicate}

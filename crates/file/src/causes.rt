@@ -1,11 +1,11 @@
-// Why a call is refused. Document 01's numbers for the causes are in specs/Causes.
+// Why a call is refused. Document 01's numbers for the causes are in specs/Contracts.
 ghost use mathlib.Core.Path.{_≡_};
-ghost use Rattle.file.specs.Causes.{causeNumber};
+ghost use Rattle.file.specs.Contracts.{causeNumber};
 
 pub enum Cause {
     // The key is not 16 bytes.
     KeyLength,
-    // File, A or nonce passes 2^61 - 1 bytes, or would.
+    // The file passes 2^61 - 1 bytes, or would.
     TooLong,
     // The bytes named don't all lie in the file.
     OutOfFile,
@@ -15,12 +15,10 @@ pub enum Cause {
     BrokenBlock,
     // The last used seal number is the last there is.
     NumbersUsed,
-    // The slip is not 36 bytes, or the tag's output not 16.
-    OutputLength,
+    // The slip is not 36 bytes.
+    SlipLength,
     // The slip's version is not 1.
     SlipVersion,
-    // The nonce is empty.
-    EmptyNonce,
 }
 
 impl Cause {
@@ -35,9 +33,8 @@ impl Cause {
             Cause::UnequalPair => 4,
             Cause::BrokenBlock => 5,
             Cause::NumbersUsed => 6,
-            Cause::OutputLength => 7,
+            Cause::SlipLength => 7,
             Cause::SlipVersion => 8,
-            Cause::EmptyNonce => 9,
         }
     }
 }

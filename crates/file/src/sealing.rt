@@ -1,22 +1,29 @@
 // Seal and check.
 use super::causes::Answer;
 use super::causes::Cause;
-use super::geometry::MOST;
 use super::slips::Fields;
 use super::slips::Opened;
-use super::slips::Verdict;
-use super::slips::open;
+use super::slips::SLIP_BYTES;
+use super::slips::open_for;
 use super::slips::write;
 use super::states::State;
-use super::tags::tag;
 use field::Block;
+use field::hashing::MAX_BYTES;
 use field::packing::store;
+use gcm::tags::tag;
 ghost use mathlib.Core.Path.{_≡_};
 ghost use mathlib.Core.Bool.{false};
 ghost use Prim.Native.Nat.{_≤_};
 ghost use lib.Dec.{eqb};
-ghost use Rattle.field.specs.Field.{limit, value};
-ghost use Rattle.file.specs.Slips.{sealAnswer, sealed, checkAnswer, checked, stateTag, openedOf};
+ghost use Rattle.field.specs.Field.{maxBytes, value};
+ghost use Rattle.file.specs.Slips.{sealRefusal, sealed, checked, stateTag};
+ghost use Rattle.file.specs.Contracts.{answerRefusal, sealAnswer, checkAnswer, openedOf};
+
+pub enum Verdict {
+    Genuine,
+    NotGenuine,
+    Refused(Cause),
+}
 
 // A state beside what seal answered.
 pub struct Sealed {
@@ -31,22 +38,11 @@ impl State {
     pub fn seal(mut self, slip: &mut [u8]) -> Sealed
         ensures { λ r. ⌜ sealAnswer r (now (slip .exit)) ≡ sealed self (now (slip .entry)) ⌝ }
     {
-        if self.n > MOST {
+        let answer = seal_refusal(self.n, self.last, slip);
+        if let Answer::Refused(_) = answer {
             return Sealed {
                 state: self,
-                answer: Answer::Refused(Cause::TooLong),
-            };
-        }
-        if slip.len() != 36 {
-            return Sealed {
-                state: self,
-                answer: Answer::Refused(Cause::OutputLength),
-            };
-        }
-        if self.last == u64::MAX {
-            return Sealed {
-                state: self,
-                answer: Answer::Refused(Cause::NumbersUsed),
+                answer,
             };
         }
         let number = self.last + 1;
@@ -63,7 +59,7 @@ impl State {
         self.last = number;
         Sealed {
             state: self,
-            answer: Answer::Done,
+            answer,
         }
     }
 
@@ -73,10 +69,7 @@ impl State {
     pub fn check(self, slip: &[u8]) -> Verdict
         ensures { λ r. ⌜ checkAnswer r ≡ checked self (now (slip .entry)) ⌝ }
     {
-        if self.n > MOST {
-            return Verdict::Refused(Cause::TooLong);
-        }
-        let o = open(slip);
+        let o = open_for(self.n, slip);
         let Opened::Slip(f) = o else {
             return refusal(o);
         };
@@ -97,7 +90,7 @@ impl State {
     // The state's tag under the nonce of an arm and a seal number, most significant byte first. The requires: the number of the file's
     // bits fits a word.
     fn tag_under(self, arm: u32, number: u64) -> Block
-        requires { ⌜ self .n ≤ limit ⌝ }
+        requires { ⌜ self .n ≤ maxBytes ⌝ }
         ensures { λ r. ⌜ r ≡ stateTag self arm number ⌝ }
     {
         let mut nonce = [0u8; 12];
@@ -122,10 +115,26 @@ fn same(a: Block, b: Block) -> bool
 
 // The refusal of a slip that did not open.
 fn refusal(o: Opened) -> Verdict
-    ensures { λ r. ⌜ checkAnswer r ≡ record { number = openedOf o .number; genuine = false } ⌝ }
+    ensures { λ r. ⌜ checkAnswer r ≡ record { refusal = openedOf o .refusal; genuine = false } ⌝ }
 {
     match o {
         Opened::Refused(cause) => Verdict::Refused(cause),
         Opened::Slip(_) => Verdict::NotGenuine,
     }
+}
+
+// The refusal of a seal, or Done, of a state of n bytes and a last used number.
+fn seal_refusal(n: u64, last: u64, slip: &[u8]) -> Answer
+    ensures { λ r. ⌜ answerRefusal r ≡ sealRefusal n last (now (slip .entry)) ⌝ }
+{
+    if n > MAX_BYTES {
+        return Answer::Refused(Cause::TooLong);
+    }
+    if slip.len() != SLIP_BYTES {
+        return Answer::Refused(Cause::SlipLength);
+    }
+    if last == u64::MAX {
+        return Answer::Refused(Cause::NumbersUsed);
+    }
+    Answer::Done
 }

@@ -1,17 +1,17 @@
 // The state that the controller holds in place of the file.
+use super::causes::Answer;
 use super::causes::Cause;
-use super::geometry::MOST;
-use super::tags::hash_key;
 use cipher::Key;
 use field::Block;
-use field::hashing::LIMIT;
+use field::hashing::MAX_BYTES;
+use field::multiplying::Count;
 use field::seeking::companion;
 use field::summing::sum;
+use gcm::tags::hash_key;
 ghost use mathlib.Core.Path.{_≡_};
-ghost use Rattle.file.specs.Tags.{hashKey};
-ghost use Rattle.file.specs.Causes.{causeNumber};
-ghost use Rattle.file.specs.States;
-ghost use Rattle.file.specs.States.{stateAnswer, zeroState, stateOf, started, readFile};
+ghost use Rattle.gcm.specs.Gcm.{hashKey};
+ghost use Rattle.file.specs.States.{acceptedWith, refusedWith, zeroState, stateOf, beginRefusal, started, readFile};
+ghost use Rattle.file.specs.Contracts.{causeNumber, answerRefusal, stateAnswer};
 
 // Document 01, "What the controller holds". It may arrive with any field values.
 pub struct State {
@@ -29,76 +29,83 @@ pub struct State {
 
 pub enum Outcome {
     // Accepted; of an edit, with its count of products.
-    Done(u64),
+    Done(Count),
     Refused(Cause),
 }
 
 // A state beside what the call answered.
-pub struct Edited {
+pub struct Answered {
     pub state: State,
     pub outcome: Outcome,
 }
 
 impl State {
     // The state of n zero bytes. Refused with 1 where the key is not 16 bytes, with 2 where n passes 2^61 - 1, and then all zeros.
-    pub fn start(key: &[u8], arm: u32, last: u64, n: u64) -> Edited
-        ensures { λ x. ⌜ stateAnswer x ≡ started (now (key .entry)) arm last n ⌝ }
+    pub fn start(key: &[u8], arm: u32, last: u64, n: u64) -> Answered
+        ensures { λ x. ⌜ stateAnswer x ≡ started (record { key = now (key .entry); arm = arm; last = last; n = n }) ⌝ }
     {
-        if !Key::fits(key) {
-            return refused(Cause::KeyLength);
-        }
-        if n > MOST {
-            return refused(Cause::TooLong);
+        let answer = begin_refusal(key, n);
+        if let Answer::Refused(cause) = answer {
+            return refused(cause);
         }
         let k = Key::from_bytes(key);
         let h = hash_key(k);
-        Edited {
-            state: holding(k, h, Block::ZERO, n, arm, last),
-            outcome: Outcome::Done(0),
-        }
+        begun(k, h, Block::ZERO, n, arm, last)
     }
 
     // The state of a lent file. Refused with 1 where the key is not 16 bytes, with 2 where the file passes 2^61 - 1 bytes, and then all zeros.
-    pub fn read(key: &[u8], arm: u32, last: u64, file: &[u8]) -> Edited
-        ensures { λ x. ⌜ stateAnswer x ≡ readFile (now (key .entry)) arm last (now (file .entry)) ⌝ }
+    pub fn read(key: &[u8], arm: u32, last: u64, file: &[u8]) -> Answered
+        ensures { λ x. ⌜ stateAnswer x ≡ readFile (record { key = now (key .entry); arm = arm; last = last; file = now (file .entry) }) ⌝ }
     {
-        if !Key::fits(key) {
-            return refused(Cause::KeyLength);
-        }
-        if file.len() > LIMIT {
-            return refused(Cause::TooLong);
+        let n = file.len() as u64;
+        let answer = begin_refusal(key, n);
+        if let Answer::Refused(cause) = answer {
+            return refused(cause);
         }
         let k = Key::from_bytes(key);
         let h = hash_key(k);
-        Edited {
-            state: holding(k, h, sum(h, file), file.len() as u64, arm, last),
-            outcome: Outcome::Done(0),
-        }
+        begun(k, h, sum(h, file), n, arm, last)
     }
 }
 
-// The state of a key with its hash key, and of a file's sum and length.
-fn holding(key: Key, h: Block, s: Block, n: u64, arm: u32, last: u64) -> State
-    requires { ⌜ h ≡ hashKey (key .bytes) ⌝ }
-    ensures { λ r. ⌜ r ≡ stateOf (key .bytes) s n arm last ⌝ }
+// The refusal of start and read, or Done, for a file of n bytes.
+fn begin_refusal(key: &[u8], n: u64) -> Answer
+    ensures { λ x. ⌜ answerRefusal x ≡ beginRefusal (now (key .entry)) n ⌝ }
 {
-    State {
-        key,
-        h,
-        i: companion(h),
-        s,
-        n,
-        arm,
-        last,
+    if !Key::fits(key) {
+        return Answer::Refused(Cause::KeyLength);
+    }
+    if n > MAX_BYTES {
+        return Answer::Refused(Cause::TooLong);
+    }
+    Answer::Done
+}
+
+// An accepted start or read: the state of a key with its hash key, and of a file's sum and length.
+fn begun(key: Key, h: Block, s: Block, n: u64, arm: u32, last: u64) -> Answered
+    requires { ⌜ h ≡ hashKey (key .bytes) ⌝ }
+    ensures { λ x. ⌜ stateAnswer x ≡ acceptedWith (stateOf (key .bytes) s n arm last) 0 ⌝ }
+{
+    Answered {
+        state: State {
+            key,
+            h,
+            i: companion(h),
+            s,
+            n,
+            arm,
+            last,
+        },
+        outcome: Outcome::Done(Count::none()),
     }
 }
 
 // What a refused start or read gives: the state of all zeros.
-fn refused(cause: Cause) -> Edited
-    ensures { λ x. ⌜ stateAnswer x ≡ States.refused zeroState (causeNumber cause) ⌝ }
+fn refused(cause: Cause) -> Answered
+    ensures { λ x. ⌜ stateAnswer x ≡ refusedWith zeroState (causeNumber cause) ⌝ }
 {
     let bytes = [0u8; 16];
-    Edited {
+    Answered {
         state: State {
             key: Key { bytes },
             h: Block::ZERO,

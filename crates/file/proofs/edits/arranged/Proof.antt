@@ -1,6 +1,6 @@
--- `file::edits::arranged` meets its contract. Each arm is its row of document 01's table (`EditCases`). Assumes nothing.
+-- `file::edits::arranged` meets its contract. Each arm is its row of document 01's table (`EditReturns`).
 use borrow.Author.Needs.{needs}
-use Rattle.file.proofs.EditCases.{factors-change, factors-append, factors-prepend, factors-drop, factors-cut}
+use Rattle.file.proofs.EditReturns.{factors-change, factors-append, factors-prepend, factors-drop, factors-cut}
 use Rattle.file.proofs.edits.arranged.Statement.{statement}
 use Rattle.file.proofs.edits.arranged.Tie as tie
 

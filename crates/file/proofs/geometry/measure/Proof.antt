@@ -1,4 +1,4 @@
--- `file::geometry::measure` meets its contract. The refusal decides; each return by its own law (`ShapeLaws`). Assumes nothing.
+-- `file::geometry::measure` meets its contract. The refusal decides; each return by its own law (`ShapeLaws`).
 use native.Mathlib.Omega.{arith}
 use borrow.Author.Needs.{needs}
 use Rattle.file.proofs.ShapeLaws.{measured-refused, measured-accepted, measured-fits, same-length, geometry-nothing}

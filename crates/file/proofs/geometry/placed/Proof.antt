@@ -1,9 +1,9 @@
 -- `file::geometry::placed` meets its contract. The touched blocks are those up to the last byte, less the whole ones before the
--- first (`ShapeLaws`). Assumes nothing.
+-- first (`ShapeLaws`).
 use Prim.Native.Nat.{_+_}
 use native.Mathlib.Omega.{arith}
 use borrow.Author.Needs.{needs}
-use Rattle.field.proofs.Horner.{blocks-value, blocks-mono}
+use Rattle.field.proofs.BlockCounts.{blocks-value, blocks-mono}
 use Rattle.file.proofs.ShapeLaws.{placed-counted}
 use Rattle.file.proofs.geometry.placed.Statement.{statement}
 use Rattle.file.proofs.geometry.placed.Tie as tie

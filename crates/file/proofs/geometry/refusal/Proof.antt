@@ -1,4 +1,4 @@
--- `file::geometry::refusal` meets its contract. Each return by its own law (`ShapeLaws`). Assumes nothing.
+-- `file::geometry::refusal` meets its contract. Each return by its own law (`ShapeLaws`).
 use native.Mathlib.Omega.{arith}
 use borrow.Author.Needs.{needs}
 use Rattle.file.proofs.ShapeLaws.{past-limit, change-unequal, change-within, append-room, prepend-broken, prepend-room}

@@ -1,5 +1,5 @@
 -- `file::geometry::row` meets its contract. In each arm the lengths of an accepted edit of that kind (`Accepted`) bound the sums and
--- differences, and the arm's row is the geometry (`ShapeLaws`). Assumes nothing.
+-- differences, and the arm's row is the geometry (`ShapeLaws`).
 use native.Mathlib.Omega.{arith}
 use borrow.Author.Needs.{needs}
 use Rattle.file.specs.declared.geometry.Kind.the-variants.{Change, Append, Prepend, DropFront, CutTail}

@@ -1,6 +1,6 @@
--- `file::sealing::refusal` meets its contract: the answer is read off what the slip is known to have opened to (`SealCases`). Assumes nothing.
+-- `file::sealing::refusal` meets its contract: the answer is read off what the slip is known to have opened to (`SealReturns`).
 use borrow.Author.Needs.{needs}
-use Rattle.file.proofs.SealCases.{refusal-told}
+use Rattle.file.proofs.SealReturns.{refusal-told}
 use Rattle.file.proofs.sealing.refusal.Statement.{statement}
 use Rattle.file.proofs.sealing.refusal.Tie as tie
 

@@ -1,7 +1,6 @@
--- `file::sealing::same` meets its contract. The words' differences, joined, are 0 where the blocks are one (`SealCases`). Assumes
--- nothing.
+-- `file::sealing::same` meets its contract. The words' differences, joined, are 0 where the blocks are one (`SealReturns`).
 use native.Mathlib.Omega.{arith}
-use Rattle.file.proofs.SealCases.{same-words}
+use Rattle.file.proofs.SealReturns.{same-words}
 use Rattle.file.proofs.sealing.same.Statement.{statement}
 use Rattle.file.proofs.sealing.same.Tie as tie
 

@@ -1,4 +1,4 @@
--- `file::slips::open` meets its contract. Each return by its own law of `SlipLaws`: refusals 7 and 8, and the fields. Assumes nothing.
+-- `file::slips::open` meets its contract. Each return by its own law of `SlipLaws`: refusals 7 and 8, and the fields.
 use native.Mathlib.Omega.{arith}
 use borrow.Author.Needs.{needs}
 use Rattle.field.proofs.Bytes.{number-lt}

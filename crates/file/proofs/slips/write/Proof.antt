@@ -1,5 +1,4 @@
--- `file::slips::write` meets its contract. The five words stored one behind the other are the slip's bytes (`SlipLaws`). Assumes
--- nothing.
+-- `file::slips::write` meets its contract. The five words stored one behind the other are the slip's bytes (`SlipLaws`).
 use native.Mathlib.Omega.{arith}
 use borrow.Author.Needs.{needs}
 use Rattle.field.specs.Field.{Small}

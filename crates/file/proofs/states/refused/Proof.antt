@@ -1,4 +1,4 @@
--- `file::states::refused` meets its contract, by the definition. Assumes nothing.
+-- `file::states::refused` meets its contract, by the definition.
 use mathlib.Core.Path.{refl}
 use Rattle.file.specs.States.{zeroState}
 use Rattle.file.proofs.states.refused.Statement.{statement}

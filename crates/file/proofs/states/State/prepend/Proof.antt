@@ -1,22 +1,27 @@
--- `file::states::State::prepend` meets its contract. It is `edit` of its kind, with nothing added to the given bytes. Assumes
--- nothing.
+-- `file::states::State::prepend` meets its contract. An edit of its kind is asked for, with nothing added to the given bytes, then put
+-- (`EditReturns`).
 use mathlib.Core.Logic.{inr}
 use mathlib.Core.Path.{refl}
 use borrow.Author.Needs.{needs}
-use Rattle.file.specs.States.{edited}
 use Rattle.file.specs.Edits.{kindOf, placeOf, given, replacing, geometryAt}
+use Rattle.file.specs.Edits as edits
+use Rattle.file.specs.States.{asked}
+use Rattle.file.proofs.EditReturns.{edited-by}
 use Rattle.file.proofs.states.State.prepend.Statement.{statement}
 use Rattle.file.proofs.states.State.prepend.Tie as tie
 
-slice-aggregate-edit : tie.Need-slice-aggregate-edit
-slice-aggregate-edit c = search needs
+slice-aggregate-ask : tie.Need-slice-aggregate-ask
+slice-aggregate-ask c = search needs
 
-edit-requires : tie.Need-edit-requires
-edit-requires c κs = inr refl
+ask-requires : tie.Need-ask-requires
+ask-requires c κs = inr refl
+
+put-requires : tie.Need-put-requires
+put-requires c κs = search needs
 
 returns : tie.Need-returns
-unfolding edited geometryAt kindOf placeOf given replacing
-returns c = c .edit .ensures
+unfolding asked geometryAt kindOf placeOf given replacing
+returns c = edited-by _ (edits.prepend (c .before .before .before .before .args .given .now)) (c .before .ask .ensures) (c .put .ensures)
 
 pub prepend-spec : {M : Type 1} → statement M
-prepend-spec = tie.close (tie.spec slice-aggregate-edit edit-requires returns)
+prepend-spec = tie.close (tie.spec slice-aggregate-ask ask-requires put-requires returns)

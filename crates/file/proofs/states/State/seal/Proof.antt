@@ -1,50 +1,70 @@
--- `file::states::State::seal` meets its contract. Each return by its own law of `SealCases`: refusals 2, 7 and 6, and the work done.
--- Assumes nothing.
+-- `file::states::State::seal` meets its contract. A refusal leaves state and slip as they were, and where there is none the slip is written
+-- (`SealReturns`).
+use native.Mathlib.Omega.{arith}
 use borrow.Author.Needs.{needs}
 use Rattle.file.specs.Slips.{numbered}
-use Rattle.file.proofs.SealCases.{seal-long, seal-size, seal-used, seal-done}
+use Rattle.file.proofs.SealReturns.{seal-refused, seal-passed, seal-done}
 use Rattle.file.proofs.states.State.seal.Statement.{statement}
 use Rattle.file.proofs.states.State.seal.Tie as tie
 
-returns : tie.Need-returns
-returns c = seal-long _ _ (c .if1 .taken)
+seal-refusal-requires : tie.Need-seal-refusal-requires
+seal-refusal-requires c κs = search needs
 
-returns-2 : tie.Need-returns-2
-returns-2 c = seal-size _ _ (c .before .if1 .left) (c .if2 .taken)
-
-returns-3 : tie.Need-returns-3
-returns-3 c = seal-used _ _ (c .before .before .before .if1 .left) (c .before .before .if2 .left) (c .if3 .taken)
-
-add-number : tie.Need-add-number
-add-number c = search needs
-
-tag-under-requires : tie.Need-tag-under-requires
-tag-under-requires c κs = search needs
-
-write-requires : tie.Need-write-requires
-write-requires c κs = search needs
+enum-told : tie.Need-enum-told
+enum-told c = search needs
 
 same-length : tie.Need-same-length
 same-length c = search needs
 
-returns-4 : tie.Need-returns-4
+returns : tie.Need-returns
+returns c = seal-refused _ _ (c .before .before .seal-refusal .ensures) (c .enum-told .given .1)
+
+enum-told-2 : tie.Need-enum-told-2
+enum-told-2 c = search needs
+
+add-number : tie.Need-add-number
+add-number c =
+    let done = c .before in
+    let start = done .before .before .before .before .before in
+    let seals = seal-passed (start .args .self) _ (done .before .before .seal-refusal .ensures) (done .enum-told2 .given .1) in
+    omega (arith, seals .room, c .struct-known .given .1 .1 .1 .1 .1 .1)
+
+tag-under-requires : tie.Need-tag-under-requires
+tag-under-requires c κs =
+    let done = c .before in
+    let start = done .before .before .before .before .before in
+    seal-passed (start .args .self) _ (done .before .before .seal-refusal .ensures) (done .enum-told2 .given .1) .short
+
+write-requires : tie.Need-write-requires
+write-requires c κs =
+    let done = c .before .before .before in
+    let start = done .before .before .before .before .before in
+    let seals = seal-passed (start .args .self) _ (done .before .before .seal-refusal .ensures) (done .enum-told2 .given .1) in
+    (seals .size, omega (arith, seals .short))
+
+same-length-2 : tie.Need-same-length-2
+same-length-2 c = search needs
+
+returns-2 : tie.Need-returns-2
 unfolding numbered
-returns-4 c =
+returns-2 c =
     let tag = c .before .before .before .before in
-    let tests = tag .before .before in
-    let start = tests .before .before .before .before .before .before in
-    seal-done (start .args .self) _ (tests .before .before .before .if1 .left) (tests .before .before .if2 .left) (tests .if3 .left)
+    let done = tag .before .before in
+    let start = done .before .before .before .before .before in
+    seal-done (start .args .self) _ (done .before .before .seal-refusal .ensures) (done .enum-told2 .given .1)
     (tag .tag-under .ensures) (c .before .before .write .ensures)
 
 pub seal-spec : {M : Type 1} → statement M
 seal-spec =
     tie.close
     (tie.spec
+    seal-refusal-requires
+    enum-told
+    same-length
     returns
-    returns-2
-    returns-3
+    enum-told-2
     add-number
     tag-under-requires
     write-requires
-    same-length
-    returns-4)
+    same-length-2
+    returns-2)

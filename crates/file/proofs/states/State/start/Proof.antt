@@ -1,55 +1,55 @@
--- `file::states::State::start` meets its contract. Each return by its own law (`StateCases`). Assumes nothing.
-use mathlib.Core.Path.{sym, _∙_}
-use borrow.Author.Tests.{not-true, not-false}
+-- `file::states::State::start` meets its contract. Each return by its own law (`StateReturns`).
 use borrow.Author.Needs.{needs}
-use Rattle.file.proofs.StateCases.{start-key, start-long, start-done}
+use Rattle.file.specs.States.{started}
+use Rattle.file.proofs.StateReturns.{begins, begin-refused, begin-passed, begin-done, start-state}
 use Rattle.file.proofs.states.State.start.Statement.{statement}
 use Rattle.file.proofs.states.State.start.Tie as tie
 
-fits-requires : tie.Need-fits-requires
-fits-requires c κs = search needs
+begin-refusal-requires : tie.Need-begin-refusal-requires
+begin-refusal-requires c κs = search needs
+
+enum-known-answer : tie.Need-enum-known-answer
+enum-known-answer c = search needs
 
 refused-requires : tie.Need-refused-requires
 refused-requires c κs = search needs
 
 returns : tie.Need-returns
+unfolding started
 returns c =
-    let fits = c .before .before in
-    start-key _ _ _ _ (sym (fits .fits2 .ensures) ∙ not-true _ (c .before .if1 .taken)) (c .refused .ensures)
+    let told = c .before .before .before .before .begin-refusal .ensures in
+    begin-refused _ _ _ told _ (c .before .before .answer .given .1) (c .refused .ensures)
 
-refused-requires-2 : tie.Need-refused-requires-2
-refused-requires-2 c κs = search needs
-
-returns-2 : tie.Need-returns-2
-returns-2 c =
-    let fits = c .before .before .before in
-    start-long _ _ _ _ (sym (fits .fits2 .ensures) ∙ not-false _ (c .before .before .if1 .left)) (c .before .if2 .taken) (c .refused2 .ensures)
+enum-told : tie.Need-enum-told
+enum-told c = search needs
 
 from-bytes-requires : tie.Need-from-bytes-requires
-from-bytes-requires c κs = sym (c .before .before .fits2 .ensures) ∙ not-false _ (c .before .if1 .left)
+from-bytes-requires c κs = begins _ _ (begin-passed _ _ _ (c .before .before .begin-refusal .ensures) (c .enum-told .given .1)) .fits
 
 hash-key-requires : tie.Need-hash-key-requires
 hash-key-requires c κs = search needs
 
-holding-requires : tie.Need-holding-requires
-holding-requires c κs = search needs
+begun-requires : tie.Need-begun-requires
+begun-requires c κs = search needs
 
-returns-3 : tie.Need-returns-3
-returns-3 c =
+returns-2 : tie.Need-returns-2
+unfolding started
+returns-2 c =
     let key = c .before .before in
-    start-done _ _ _ _ _ (sym (key .before .before .before .fits2 .ensures) ∙ not-false _ (key .before .before .if1 .left))
-    (key .before .if2 .left) (key .from-bytes .ensures) (c .holding .ensures)
+    let done = key .before in
+    begin-done _ _ _ (done .before .before .begin-refusal .ensures) (done .enum-told .given .1) (c .begun .ensures)
+    (start-state _ _ (key .from-bytes .ensures))
 
 pub start-spec : {M : Type 1} → statement M
 start-spec =
     tie.close
     (tie.spec
-    fits-requires
+    begin-refusal-requires
+    enum-known-answer
     refused-requires
     returns
-    refused-requires-2
-    returns-2
+    enum-told
     from-bytes-requires
     hash-key-requires
-    holding-requires
-    returns-3)
+    begun-requires
+    returns-2)

@@ -1,6 +1,6 @@
--- `file::states::State::tag_under` meets its contract. The nonce is the bytes of arm and number (`SealCases`). Assumes nothing.
+-- `file::states::State::tag_under` meets its contract. The nonce is the bytes of arm and number (`SealReturns`).
 use borrow.Author.Needs.{needs}
-use Rattle.file.proofs.SealCases.{state-tag}
+use Rattle.file.proofs.SealReturns.{state-tag}
 use Rattle.file.proofs.states.State.tag_under.Statement.{statement}
 use Rattle.file.proofs.states.State.tag_under.Tie as tie
 

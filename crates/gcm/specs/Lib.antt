@@ -1,0 +1,5 @@
+-- The definitions, and what serves contracts alone. `Gcm` hands them on to the layers above, which import it alone.
+pub mod Gmac
+pub mod Answers
+pub mod Contracts
+pub mod Gcm
