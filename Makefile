@@ -1,18 +1,18 @@
 # Thin names over rt and the gate.
-.PHONY: run lib example stack test
+.PHONY: run lib example cost stack test
 
 # Build what there is to run, and run it on small examples.
 run:
 	rt check hash demo cipher_vectors
 	@echo; echo "document 01's example for the hash program:"
-	target/bin/hash < crates/hash/stdin
+	printf '\200\0\0\0\0\0\0\0\0\0\0\0\0\0\0\0\1' | target/bin/hash
 	@echo; echo "one file's life:"
 	target/bin/demo
 	@echo; echo "FIPS 197's examples for the cipher:"
 	head -n 11 crates/cipher_vectors/stdin | target/bin/cipher_vectors
 
 # The static library that C and Rust programs link, and its header, in target/lib. It needs no other library.
-LAYERS = crates/cipher crates/field crates/file crates/capi
+LAYERS = crates/refusals crates/cipher crates/field crates/gcm crates/file crates/capi
 lib: target/lib/libarmfile.a target/lib/armfile.h
 target/lib/libarmfile.a: crates.txt $(shell find $(LAYERS) -name '*.rt' -o -name '*.antt')
 	rt staticlib capi
@@ -27,6 +27,12 @@ example: lib
 	mkdir -p target/example
 	$(CC) -std=c11 -Wall -Wextra -Werror -O2 -Itarget/lib examples/c/seal.c -Ltarget/lib -larmfile -o target/example/seal
 	target/example/seal
+
+# What the calls cost on this machine.
+cost: lib
+	mkdir -p target/example
+	$(CC) -std=c11 -Wall -Wextra -Werror -O2 -Itarget/lib examples/c/cost.c -Ltarget/lib -larmfile -o target/example/cost
+	target/example/cost
 
 # How many bytes of stack each call of the library takes.
 stack: lib

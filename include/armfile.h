@@ -12,11 +12,13 @@
  *
  * CONVENTIONS
  *
- * Every function returns 0 when the work was done, or the number of a refusal
- * (below). A refused call leaves every lent buffer, the state, the count and
- * the verdict as they were. No input makes a call fail in any other way: there
- * is no abort, no assertion and no error state. This is proved, for all
- * inputs, of the source; the compiler's back end and linker are not covered.
+ * Every function but the three that read a state's fields (armfile_length,
+ * armfile_arm, armfile_last) returns 0 when the work was done, or the number of
+ * a refusal (below). A refused call leaves every lent buffer, the state, the
+ * count and the verdict as they were. No input makes a call fail in any other
+ * way: there is no abort, no assertion and no error state. This is proved, for
+ * all inputs, of the source; the compiler's back end and linker are not
+ * covered.
  *
  * Nothing is allocated, and no static data is written: calls on different
  * states may run in different threads. Calls on one state must not overlap in
@@ -35,10 +37,11 @@
  *    and a seal's `slip` written. It is below 2^63.
  *  - `state` points to ARMFILE_STATE_BYTES bytes, `count` to an aligned
  *    uint64_t, `verdict` to one byte. None of them needs a value before the
- *    call, but for the state of an edit, a seal or a check.
- *  - What a call may write (state, count, out, the slip of a seal, verdict)
- *    overlaps nothing else that is passed to it. What is only read may overlap
- *    freely: old and new of a change may be the same bytes.
+ *    call, but for a state that is read: that of an edit, a seal, a check or
+ *    one of the three that read its fields.
+ *  - What a call may write (a state that is not const, count, out, the slip of
+ *    a seal, verdict) overlaps nothing else that is passed to it. What is only
+ *    read may overlap freely: old and new of a change may be the same bytes.
  *
  * TIME
  *
@@ -60,13 +63,50 @@
  * that go by the stack. They are the same at every length above 0, and at 0 no
  * more. This is measured (tests/stack), and is not part of what is proved:
  *
- *      armfile_encrypt    736      armfile_append       832
- *      armfile_multiply   160      armfile_prepend      832
- *      armfile_ghash      480      armfile_drop_front   832
- *      armfile_gmac      1024      armfile_cut_tail     832
- *      armfile_start      976      armfile_seal        1216
+ *      armfile_encrypt    736      armfile_append       704
+ *      armfile_multiply   160      armfile_prepend      704
+ *      armfile_ghash      480      armfile_drop_front   704
+ *      armfile_gmac      1024      armfile_cut_tail     704
+ *      armfile_start      976      armfile_seal        1200
  *      armfile_read       992      armfile_check       1056
- *      armfile_change     832
+ *      armfile_change     704      armfile_length         8
+ *      armfile_arm          8      armfile_last           8
+ *
+ * WHAT TO WIPE
+ *
+ * A call leaves on the stack, below its caller's frame, what it worked with:
+ * keys, hash keys, H, I and sums were found there after every call but the
+ * three that read a state's fields. The library wipes nothing: what the
+ * compiler copies where is out of the source's reach. A caller into whose stack
+ * somebody else may look wipes, after the last call,
+ *
+ *  - the stack below itself, by calling, from the function that made the calls,
+ *    one that is not inlined and overwrites at least as many bytes as the
+ *    largest figure above (examples/c/seal.c overwrites 2048; nothing was found
+ *    after it);
+ *  - every state that is no longer used, copies too: it holds the key;
+ *  - its own copies of the key.
+ *
+ * Slips, counts and verdicts are no secret. Registers were not looked into.
+ *
+ * COST
+ *
+ * Nanoseconds a call takes, the median of many, on one core of an Intel Xeon
+ * server (no instruction for AES or for products of polynomials is used). Take
+ * them as orders of magnitude, and `make cost` for your own machine:
+ *
+ *      armfile_start                                    60 000
+ *      armfile_read of 1 KiB, of 1 MiB        80 000, 34 000 000
+ *      armfile_append of 16 bytes, of 4 KiB          900, 66 000
+ *      armfile_change of 16 bytes, first of 1 GiB       13 000
+ *      armfile_cut_tail of 16 bytes                        900
+ *      armfile_seal, armfile_check                2 300, 2 400
+ *      armfile_gmac of 1 KiB                            20 000
+ *      armfile_encrypt, armfile_multiply            2 000, 300
+ *
+ * Most of it is products of blocks, about 260 each in a long run; an edit
+ * returns how many it took. What armfile_start and armfile_read take besides
+ * the file is H's companion I, some 250 products.
  *
  * THE STATE
  *
@@ -87,13 +127,24 @@
  *
  * The state is secret: it holds the key. It may be copied and stored; a copy
  * that is used later repeats seal numbers, which breaks GMAC, so never go back
- * to an older copy after a seal. Wiping it is the caller's.
+ * to an older copy after a seal. Wiping it is the caller's (WHAT TO WIPE).
+ * armfile_length(), armfile_arm() and armfile_last() read its public fields, so
+ * that no caller needs this layout.
  *
- * Any 84 bytes are taken as a state; no call trusts what it finds there. Where
- * n passes 2^61 - 1, every call but armfile_start and armfile_read refuses the
+ * Any ARMFILE_STATE_BYTES bytes are taken as a state; no call trusts what it
+ * finds there. Where n passes 2^61 - 1, every edit, seal and check refuses the
  * state with 2 before all else; otherwise the call does its work on the fields
  * as they are. Only states that come from armfile_start or armfile_read and
  * the calls after it stand for a file.
+ *
+ * A FILE IN PIECES
+ *
+ * A file that is never at hand as a whole is taken in from its front: by
+ * armfile_start() with n = 0, and an armfile_append() for each piece, of any
+ * length. The state is then the one that armfile_read() makes of the whole.
+ * Beside one armfile_read(), a piece costs at most two products for each binary
+ * digit of its number of blocks, and one more where it begins inside a block:
+ * pieces of some KiB, of whole blocks, cost next to nothing.
  *
  * TRUE BYTES
  *
@@ -117,6 +168,23 @@ extern "C" {
 
 /** \brief Size of a slip in bytes. */
 #define ARMFILE_SLIP_BYTES 36
+
+/** \brief Size in bytes of a block, a hash key, a hash and a tag; a key's. */
+#define ARMFILE_BLOCK_BYTES 16
+
+/** \brief The longest file, A, C or nonce in bytes: 2^61 - 1. */
+#define ARMFILE_MAX_BYTES UINT64_C(0x1fffffffffffffff)
+
+/**
+ * \brief The version of a slip, in its first 3 bits: slip[0] >> 5. (The refusal
+ * of a slip of another version is ARMFILE_SLIP_VERSION.)
+ */
+#define ARMFILE_SLIP_FORMAT 1
+
+/** \brief A check's verdict: the slip is not genuine. */
+#define ARMFILE_NOT_GENUINE 0
+/** \brief A check's verdict: the slip is genuine. */
+#define ARMFILE_GENUINE 1
 
 /*
  * Refusals. Where several apply, the one that a function's description lists
@@ -142,7 +210,7 @@ extern "C" {
  * bytes, or another output is not 16.
  */
 #define ARMFILE_OUTPUT_LENGTH 7
-/** \brief The slip's version is not 1. */
+/** \brief The slip's version is not ARMFILE_SLIP_FORMAT, 1. */
 #define ARMFILE_SLIP_VERSION 8
 /** \brief The nonce is empty. */
 #define ARMFILE_EMPTY_NONCE 9
@@ -280,6 +348,35 @@ uint64_t armfile_read(const uint8_t *key, size_t key_len,
 	const uint8_t *file, size_t file_len, uint8_t state[ARMFILE_STATE_BYTES]);
 
 /* ==================================================================== */
+/* What a state holds. These three take any state and refuse none: what */
+/* they return is no refusal's number.                                  */
+
+/**
+ * \brief The file's length in bytes.
+ *
+ * \param state  the state, ARMFILE_STATE_BYTES bytes; it is only read.
+ * \return the length: at most 2^61 - 1 in a state that stands for a file.
+ */
+uint64_t armfile_length(const uint8_t state[ARMFILE_STATE_BYTES]);
+
+/**
+ * \brief The arm number.
+ *
+ * \param state  the state, ARMFILE_STATE_BYTES bytes; it is only read.
+ * \return the arm number.
+ */
+uint32_t armfile_arm(const uint8_t state[ARMFILE_STATE_BYTES]);
+
+/**
+ * \brief The last used seal number.
+ *
+ * \param state  the state, ARMFILE_STATE_BYTES bytes; it is only read.
+ * \return the number of the last seal, or the number given to armfile_start()
+ *         or armfile_read() where there was none since.
+ */
+uint64_t armfile_last(const uint8_t state[ARMFILE_STATE_BYTES]);
+
+/* ==================================================================== */
 /* The five edits.                                                      */
 /*                                                                      */
 /* Each is given the bytes it puts in or takes out, and never the rest  */
@@ -400,7 +497,8 @@ uint64_t armfile_cut_tail(uint8_t state[ARMFILE_STATE_BYTES],
  * \param slip_len  its length; anything but 36 is refused.
  * \return 0, 2, 7 or 6.
  */
-uint64_t armfile_seal(uint8_t state[ARMFILE_STATE_BYTES], uint8_t *slip, size_t slip_len);
+uint64_t armfile_seal(uint8_t state[ARMFILE_STATE_BYTES],
+	uint8_t *slip, size_t slip_len);
 
 /**
  * \brief Says whether a slip is genuine.
@@ -412,13 +510,13 @@ uint64_t armfile_seal(uint8_t state[ARMFILE_STATE_BYTES], uint8_t *slip, size_t 
  * `slip_len` is not 36, then with 8 where the slip's version is not 1; the
  * verdict then stays as it was, so test the returned number first.
  *
- * \param state     the state, ARMFILE_STATE_BYTES bytes; it stays as it was.
+ * \param state     the state, ARMFILE_STATE_BYTES bytes; it is only read.
  * \param slip      the slip to judge, any bytes.
  * \param slip_len  its length; anything but 36 is refused.
- * \param verdict   receives 1 for genuine, 0 for not.
+ * \param verdict   receives ARMFILE_GENUINE or ARMFILE_NOT_GENUINE.
  * \return 0, 2, 7 or 8.
  */
-uint64_t armfile_check(uint8_t state[ARMFILE_STATE_BYTES],
+uint64_t armfile_check(const uint8_t state[ARMFILE_STATE_BYTES],
 	const uint8_t *slip, size_t slip_len, uint8_t *verdict);
 
 #ifdef __cplusplus

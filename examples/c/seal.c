@@ -1,19 +1,91 @@
-/* A file of one line, sealed and checked. */
+/* A file's life with the library: taken in by pieces, edited, sealed, put away, taken out again and checked. */
 #include <stdio.h>
 #include "armfile.h"
 
-int main(void)
+#define ARM 7
+#define TEXT(t) (t), sizeof(t) - 1 /* a text's bytes and their number */
+
+static const uint8_t key[ARMFILE_BLOCK_BYTES] = { 1, 2, 3, 4, 5, 6, 7, 8, 9, 10, 11, 12, 13, 14, 15, 16 };
+static const uint8_t head[] = "; arm 7, cell 3\n", line[] = "G1 X10 Y20 Z30\n", line_2[] = "G1 X11 Y20 Z30\n";
+static const uint8_t old[] = "X10", new_[] = "X12", left[] = "G1 X12 Y20 Z30\n";
+
+/* What is put away: the state, which is secret, and the slip, which is not. */
+struct stored {
+	uint8_t state[ARMFILE_STATE_BYTES], slip[ARMFILE_SLIP_BYTES];
+};
+
+/* Overwrites the stack below its caller, where the library's calls leave keys and sums (armfile.h, WHAT TO WIPE). */
+static void overwrite_stack(void)
 {
-	static const uint8_t key[16] = { 1, 2, 3, 4, 5, 6, 7, 8, 9, 10, 11, 12, 13, 14, 15, 16 };
-	static const uint8_t line[] = "G1 X10 Y20 Z30\n";
-	uint8_t state[ARMFILE_STATE_BYTES], slip[ARMFILE_SLIP_BYTES], verdict;
+	volatile uint8_t room[2048];
+
+	for (size_t i = 0; i < sizeof room; i++)
+		room[i] = 0;
+}
+static void (*volatile wipe_stack)(void) = overwrite_stack; /* volatile, so that it is not inlined */
+
+static void wipe(volatile uint8_t *bytes, size_t n)
+{
+	while (n--)
+		*bytes++ = 0;
+}
+
+/* Whether a call was refused; if so, its number is told. Nothing has changed then, and the caller may go on. */
+static int refused(const char *what, uint64_t number)
+{
+	if (number != ARMFILE_OK)
+		printf("%s: refused %u\n", what, (unsigned)number);
+	return number != ARMFILE_OK;
+}
+
+/* From nothing to `left`. What a change, a drop or a cut names does stand in the file at that place. */
+static int edit(uint8_t *state)
+{
 	uint64_t count;
 
-	if (armfile_start(key, sizeof key, 7, 0, 0, state) != ARMFILE_OK
-	    || armfile_append(state, line, sizeof line - 1, &count) != ARMFILE_OK
-	    || armfile_seal(state, slip, sizeof slip) != ARMFILE_OK
-	    || armfile_check(state, slip, sizeof slip, &verdict) != ARMFILE_OK)
+	if (refused("start", armfile_start(key, sizeof key, ARM, 0, 0, state))
+	    || refused("append", armfile_append(state, TEXT(line), &count))
+	    || refused("append", armfile_append(state, TEXT(line_2), &count)))
 		return 1;
-	printf("%s\n", verdict ? "genuine" : "not genuine");
+	/* Whole blocks alone are prepended: without its line end the head is none, and with it it is. */
+	if (refused("prepend of 15 bytes", armfile_prepend(state, head, 15, &count))
+	    && refused("prepend", armfile_prepend(state, TEXT(head), &count)))
+		return 1;
+	printf("%u bytes\n", (unsigned)armfile_length(state));
+	return refused("change", armfile_change(state, sizeof head - 1 + 3, TEXT(old), TEXT(new_), &count))
+	    || refused("drop_front", armfile_drop_front(state, TEXT(head), &count))
+	    || refused("cut_tail", armfile_cut_tail(state, TEXT(line_2), &count));
+}
+
+/* Puts away and takes out again. A controller would store the state where nobody else reads it, and before the slip leaves. */
+static int put_away(const struct stored *from, struct stored *to)
+{
+	FILE *f = tmpfile();
+	int fine = f && fwrite(from, sizeof *from, 1, f) == 1 && fseek(f, 0, SEEK_SET) == 0 && fread(to, sizeof *to, 1, f) == 1;
+
+	if (f)
+		fclose(f);
+	return !fine;
+}
+
+int main(void)
+{
+	struct stored kept, back;
+	uint8_t verdict = ARMFILE_NOT_GENUINE, of_reader = ARMFILE_NOT_GENUINE, reader[ARMFILE_STATE_BYTES];
+
+	if (edit(kept.state) || refused("seal", armfile_seal(kept.state, kept.slip, sizeof kept.slip)) || put_away(&kept, &back))
+		return 1;
+	printf("%u bytes, arm %u, seal %u\n", (unsigned)armfile_length(back.state), (unsigned)armfile_arm(back.state),
+		(unsigned)armfile_last(back.state));
+	/* The slip fits the state that was put away, and the state of one who reads the file whole. */
+	if (refused("check", armfile_check(back.state, back.slip, sizeof back.slip, &verdict))
+	    || refused("read", armfile_read(key, sizeof key, ARM, 0, TEXT(left), reader))
+	    || refused("check", armfile_check(reader, back.slip, sizeof back.slip, &of_reader)))
+		return 1;
+	wipe(kept.state, sizeof kept.state);
+	wipe(back.state, sizeof back.state);
+	wipe(reader, sizeof reader);
+	wipe_stack();
+	printf("%s\n", verdict == ARMFILE_GENUINE && of_reader == ARMFILE_GENUINE ? "genuine" : "not genuine");
 	return 0;
 }

@@ -1,73 +1,69 @@
 -- A list of calls through the boundary is the list of calls of the demands: the lent bytes are those of the editor's state from an accepted
 -- start or read on, since every field of such a state has room in its bytes.
--- It rests on the state's round trip (`StateBytes`) and on the file keeper's invariant. Assumes nothing.
+-- It rests on the state's round trip (`StateBytes`), on demand 1 and on the file keeper's invariant.
 use mathlib.Core.Path.{_≡_, refl, sym, ap, ap₂, subst, _∙_}
-use mathlib.Core.Bool.{Bool, true, false, cond}
+use mathlib.Core.Bool.{Bool, true, false}
+use mathlib.Core.Logic.{_≢_}
 use mathlib.Core.List.{List, [], _∷_, _++_}
 use Prim.Native.Nat.{ℕ, _+_, _<_, _^_}
 use native.Mathlib.Omega.{arith}
 use lib.Dec.{eqb}
 use lib.ListN.{length}
-use borrow.Author.Tests.{eq-eqb}
+use borrow.Author.Tests.{eq-eqb, eqb-true, eqb-false}
 use Rattle.cipher.specs.Aes.{keyFits}
 use Rattle.cipher.proofs.AesLaws.{fits-length}
-use Rattle.field.specs.Field.{value, Small}
+use Rattle.field.specs.Field.{Small}
 use Rattle.field.proofs.Powers.{small-companion}
+use Rattle.gcm.specs.Gcm.{hashKey}
+use Rattle.gcm.proofs.TagLaws.{small-hash}
 use Rattle.file.specs.declared.states.State.{State}
-use Rattle.file.specs.Tags.{hashKey}
-use Rattle.file.specs.Edits.{Edit, kindOf, given, replacing, geometryAt, countOf}
-use Rattle.file.specs.States.{accepted, refused, moved, sumAfter, editedBy, edited, started, readFile}
-use Rattle.file.specs.Slips.{SealAnswer, slipBytes, stateTag, sealNumber, numbered, sealed, checked}
-use Rattle.file.specs.Machine.{Call, edit, seal, check, Machine}
-use Rattle.file.specs.Runs.{Run, stateAfter, answerOf, reported, begun, further, run, fromStart, fromRead}
-use Rattle.file.proofs.Invariant.{Holds, small-hash, begun-start, begun-read, holds-start, holds-read, holds-kept}
-use Rattle.capi.specs.Bytes.{stateBytes, stateFrom}
-use Rattle.capi.specs.Calls.{EditCall, editResult, kept, editCall, keptAtStart, startCall, readCall}
-use Rattle.capi.specs.Calls.{SealCall, sealResult, stamped, sealCall, judged, checkCall}
-use Rattle.capi.specs.Lists.{lentCall, LentRun, lentBegun, lentFurther, lentRun, Boundary}
+use Rattle.file.specs.States.{keyOf, StateAnswer, edited}
+use Rattle.file.specs.Slips.{SealAnswer, sealed, checked}
+use Rattle.file.specs.Calls.{Call, edit, seal, check, callAnswer}
+use Rattle.file.specs.Machine.{Machine}
+use Rattle.file.specs.Runs.{Run, begun, further, run, fromStart, fromRead}
+use Rattle.file.proofs.Calls.{begun-start, begun-read}
+use Rattle.file.proofs.Demand1.{edited-kept, sealed-kept}
+use Rattle.file.proofs.Invariant.{Holds, holds-start, holds-read, holds-kept}
+use Rattle.capi.specs.Bytes.{packedState, stateFrom}
+use Rattle.capi.specs.Calls.{EditCall, kept, editCall, keptAtStart, startCall, readCall, stamped, sealCall, judged, checkCall}
+use Rattle.capi.specs.Contracts.{editResult}
+use Rattle.capi.specs.LentRuns.{lentCall, LentRun, lentBegun, lentFurther, lentRun, Boundary, BoundaryTheorem}
 use Rattle.capi.proofs.StateBytes.{HasRoom, state-back}
 
 -- ---- one call on the bytes of a state
 
--- the tests of an edit: t that it is accepted, c that it touches no block
-kept-choice : (st st′ : State) (n k : ℕ) (t c : Bool) → eqb n 0 ≡ t
-    → let a = cond t (cond c (accepted st 0) (accepted st′ k)) (refused st n) in
-    kept a (stateBytes st) 0 ≡ editResult (a .number) (stateBytes (a .state)) (a .count)
+-- what a call leaves is the bytes of the state after it, refused or not, where a refusal keeps the state and counts nothing
+kept-same : (a : StateAnswer) (st : State) → (a .refusal ≢ 0 → (a .state ≡ st) × (a .count ≡ 0))
+    → kept a (packedState st) 0 ≡ editResult (a .refusal) (packedState (a .state)) (a .count)
 unfolding kept
-kept-choice st st′ n k true true e = refl
-kept-choice st st′ n k true false e = refl
-kept-choice st st′ n k false c e = rw e
+kept-same a st same = flag (eqb (a .refusal) 0) refl
+  where
+    flag : (t : Bool) → eqb (a .refusal) 0 ≡ t → kept a (packedState st) 0 ≡ editResult (a .refusal) (packedState (a .state)) (a .count)
+    flag true e = simp e (ap (λ (n : ℕ). editResult n (packedState (a .state)) (a .count)) (sym (eqb-true _ _ e)))
+    flag false e =
+        let p = same (eqb-false _ _ e) in
+        simp e (ap₂ (λ (x : State) (k : ℕ). editResult (a .refusal) (packedState x) k) (sym (p .0)) (sym (p .1)))
 
--- t that a seal is accepted
-stamped-choice : (st st′ : State) (n : ℕ) (out slip : List ℕ) (t : Bool) → eqb n 0 ≡ t
-    → let a = cond {A = SealAnswer} t (record { state = st′; number = 0; slip = slip }) (record { state = st; number = n; slip = out }) in
-    stamped a (stateBytes st) ≡ sealResult (a .number) (stateBytes (a .state)) (a .slip)
+stamped-same : (a : SealAnswer) (st : State) → (a .refusal ≢ 0 → a .state ≡ st)
+    → stamped a (packedState st) .state ≡ packedState (a .state)
 unfolding stamped
-stamped-choice st st′ n out slip true e = refl
-stamped-choice st st′ n out slip false e = rw e
+stamped-same a st same = flag (eqb (a .refusal) 0) refl
+  where
+    flag : (t : Bool) → eqb (a .refusal) 0 ≡ t → stamped a (packedState st) .state ≡ packedState (a .state)
+    flag true e = simp e
+    flag false e = simp e (ap packedState (sym (same (eqb-false _ _ e))))
 
--- so an edit and a seal leave the bytes of the state after them, refused or not
-kept-edit : (st : State) (e : Edit)
-    → kept (edited st e) (stateBytes st) 0 ≡ editResult (edited st e .number) (stateBytes (edited st e .state)) (edited st e .count)
-unfolding edited editedBy
-kept-edit st e =
-    let g = geometryAt (st .n) e in
-    kept-choice st (moved st (sumAfter st (kindOf e) g (given e) (replacing e)) (g .n)) (g .number) (countOf g) _ (eqb (g .q) 0) refl
-
-stamped-seal : (st : State) (out : List ℕ)
-    → stamped (sealed st out) (stateBytes st)
-    ≡ sealResult (sealed st out .number) (stateBytes (sealed st out .state)) (sealed st out .slip)
-unfolding sealed
-stamped-seal st out =
-    stamped-choice st (numbered st (st .last + 1)) (sealNumber (st .n) (st .last) out) out
-    (slipBytes (st .n) (st .arm) (st .last + 1) (value (stateTag st (st .arm) (st .last + 1)))) _ refl
-
--- and every call does
+-- so every call does (demand 1)
 lent-call : (st : State) → HasRoom st → (c : Call)
-    → lentCall (stateBytes st) c ≡ editResult (answerOf st c) (stateBytes (stateAfter st c)) (reported st c)
-unfolding lentCall answerOf stateAfter reported editCall sealCall checkCall judged
-lent-call st f (edit e) = rw (state-back st f) (kept-edit st e)
-lent-call st f (seal out) = rw (state-back st f) (ap (λ (x : SealCall). editResult (x .number) (x .state) 0) (stamped-seal st out))
+    → let a = callAnswer st c in
+    lentCall (packedState st) c ≡ editResult (a .refusal) (packedState (a .state)) (a .count)
+unfolding lentCall callAnswer editCall sealCall checkCall stamped judged
+lent-call st f (edit e) =
+    rw (state-back st f) (kept-same (edited st e) st (edited-kept st e))
+lent-call st f (seal out) =
+    rw (state-back st f)
+    (ap (λ (b : List ℕ). editResult (sealed st out .refusal) b 0) (stamped-same (sealed st out) st (λ z. sealed-kept st out z .0)))
 lent-call st f (check slip) = rw (state-back st f)
 
 -- ---- a list of calls
@@ -75,6 +71,7 @@ lent-call st f (check slip) = rw (state-back st f)
 module _ (key : List ℕ) (arm : ℕ) (k : keyFits key ≡ true) (w : arm < 2 ^ 32) where
   -- every field of an editor's state has room in its bytes
   has-room : (st : State) (m : Machine) → Holds key arm st m → HasRoom st
+  unfolding keyOf
   has-room st m h =
       record {
         key = ap length (h .same-key) ∙ fits-length key k;
@@ -86,42 +83,40 @@ module _ (key : List ℕ) (arm : ℕ) (k : keyFits key ≡ true) (w : arm < 2 ^ 
         last = omega arith;
       }
 
-  boundary : (l : LentRun) (r : Run) → Holds key arm (r .state) (r .machine) → l .state ≡ stateBytes (r .state) → l .answers ≡ r .answers
+  boundary : (l : LentRun) (r : Run) → Holds key arm (r .state) (r .machine) → l .state ≡ packedState (r .state) → l .refusals ≡ r .refusals
       → l .total ≡ r .total → Boundary l r
   unfolding sealCall stamped checkCall
   boundary l r h b a t =
       let back : stateFrom (l .state) ≡ r .state = ap stateFrom b ∙ state-back (r .state) (has-room (r .state) (r .machine) h) in
       record {
         state = back;
-        answers = a;
+        refusals = a;
         total = t;
         slips = λ out. ap (λ (st : State). sealed st out .slip) back;
-        verdicts = λ slip verdict. ap (λ (st : State). judged (checked st slip) (l .state) verdict) back;
+        verdicts = λ slip verdict. ap (λ (st : State). judged (checked st slip) verdict) back;
       }
 
-  boundary-run : (l : LentRun) (r : Run) (calls : List Call) → Holds key arm (r .state) (r .machine) → l .state ≡ stateBytes (r .state)
-      → l .answers ≡ r .answers → l .total ≡ r .total → Boundary (lentRun l calls) (run r calls)
+  boundary-run : (l : LentRun) (r : Run) (calls : List Call) → Holds key arm (r .state) (r .machine) → l .state ≡ packedState (r .state)
+      → l .refusals ≡ r .refusals → l .total ≡ r .total → Boundary (lentRun l calls) (run r calls)
   unfolding lentRun run lentFurther further
   boundary-run l r [] h b a t = boundary l r h b a t
   boundary-run l r (c ∷ cs) h b a t =
       let e = ap (λ (x : List ℕ). lentCall x c) b ∙ lent-call (r .state) (has-room (r .state) (r .machine) h) c in
       boundary-run (lentFurther l c) (further r c) cs (holds-kept key arm (r .state) (r .machine) h c)
       (ap (λ (x : EditCall). x .state) e)
-      (ap₂ (λ (x : List ℕ) (y : EditCall). x ++ (y .number ∷ [])) a e)
+      (ap₂ (λ (x : List ℕ) (y : EditCall). x ++ (y .refusal ∷ [])) a e)
       (ap₂ (λ (x : ℕ) (y : EditCall). x + y .count) t e)
 
 -- ---- from an accepted start or read, whatever bytes are lent
 
-pub boundary-start : (key : List ℕ) (arm last n : ℕ) → started key arm last n .number ≡ 0 → arm < 2 ^ 32 → last < 2 ^ 64
-    → (lent : List ℕ) (calls : List Call)
-    → Boundary (lentRun (lentBegun (startCall key arm last n lent .state)) calls) (fromStart key arm last n calls)
-unfolding startCall keptAtStart lentBegun fromStart begun
-boundary-start key arm last n e w l lent calls =
-    boundary-run key arm (begun-start key arm last n e .fits) w _ _ calls (holds-start key arm last n e l) (rw (eq-eqb _ 0 e)) refl refl
-
-pub boundary-read : (key : List ℕ) (arm last : ℕ) (file : List ℕ) → readFile key arm last file .number ≡ 0 → arm < 2 ^ 32 → last < 2 ^ 64
-    → (lent : List ℕ) (calls : List Call)
-    → Boundary (lentRun (lentBegun (readCall key arm last file lent .state)) calls) (fromRead key arm last file calls)
-unfolding readCall keptAtStart lentBegun fromRead begun
-boundary-read key arm last file e w l lent calls =
-    boundary-run key arm (begun-read key arm last file e .fits) w _ _ calls (holds-read key arm last file e l) (rw (eq-eqb _ 0 e)) refl refl
+pub boundary-theorem : BoundaryTheorem
+unfolding startCall readCall keptAtStart lentBegun fromStart fromRead begun
+boundary-theorem =
+    record {
+      start = λ s a lent calls.
+          boundary-run (s .key) (s .arm) (begun-start s (a .accepted) .fits) (a .arm) _ _ calls (holds-start s (a .accepted) (a .last)) (rw (eq-eqb _ 0 (a .accepted))) refl
+          refl;
+      read = λ r a lent calls.
+          boundary-run (r .key) (r .arm) (begun-read r (a .accepted) .fits) (a .arm) _ _ calls (holds-read r (a .accepted) (a .last)) (rw (eq-eqb _ 0 (a .accepted))) refl
+          refl;
+    }

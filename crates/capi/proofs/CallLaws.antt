@@ -1,6 +1,5 @@
 -- The calls on a lent state: each is the file keeper's own, between the bytes that are read and those that are written. One law takes each
 -- group of calls to its definition, and one serves each return of the code that writes an answer.
--- Assumes nothing.
 use mathlib.Core.Path.{_≡_, refl, sym, ap, ap₂, _∙_}
 use mathlib.Core.Bool.{Bool, true, false, cond}
 use mathlib.Core.List.{List}
@@ -8,22 +7,23 @@ use Prim.Native.Nat.{ℕ}
 use native.Mathlib.Omega.{arith}
 use lib.Dec.{eqb}
 use borrow.Author.Tests.{eq-eqb, ne-eqb}
+use Rattle.field.specs.declared.multiplying.Count.{Count}
 use Rattle.file.specs.declared.causes.Cause.{Cause}
 use Rattle.file.specs.declared.causes.Answer.the-variants as answer
 use Rattle.file.specs.declared.states.State.{State}
-use Rattle.file.specs.declared.states.Edited.{Edited}
+use Rattle.file.specs.declared.states.Answered.{Answered}
 use Rattle.file.specs.declared.states.Outcome.the-variants as outcome
 use Rattle.file.specs.declared.sealing.Sealed.{Sealed}
-use Rattle.file.specs.declared.slips.Verdict.{Verdict}
-use Rattle.file.specs.declared.slips.Verdict.the-variants as verdict
-use Rattle.file.specs.Causes.{causeNumber, answerNumber, outcomeNumber, outcomeCount}
+use Rattle.file.specs.declared.sealing.Verdict.{Verdict}
+use Rattle.file.specs.declared.sealing.Verdict.the-variants as verdict
+use Rattle.file.specs.Contracts.{causeNumber, answerRefusal, outcomeRefusal, outcomeCount, stateAnswer, sealAnswer, checkAnswer}
 use Rattle.file.specs.Edits.{Edit}
-use Rattle.file.specs.States.{StateAnswer, stateAnswer, edited}
-use Rattle.file.specs.Slips.{SealAnswer, sealAnswer, sealed, CheckAnswer, checkAnswer, checked}
+use Rattle.file.specs.States.{StateAnswer, edited}
+use Rattle.file.specs.Slips.{SealAnswer, sealed, CheckAnswer, checked}
 use Rattle.file.proofs.ShapeLaws.{cause-pos}
-use Rattle.capi.specs.Bytes.{stateBytes, stateFrom}
-use Rattle.capi.specs.Calls.{EditCall, editResult, kept, editCall, StartCall, startResult, keptAtStart}
-use Rattle.capi.specs.Calls.{SealCall, sealResult, stamped, sealCall, CheckCall, checkResult, judged, checkCall}
+use Rattle.capi.specs.Bytes.{packedState, stateFrom}
+use Rattle.capi.specs.Calls.{EditCall, kept, editCall, StartCall, keptAtStart, SealCall, stamped, sealCall, CheckCall, judged, checkCall}
+use Rattle.capi.specs.Contracts.{editResult, startResult, sealResult, checkResult}
 
 -- a number that is a cause's is not 0
 refusal : (n : ℕ) (c : Cause) → n ≡ causeNumber c → n ≡ 0 → ⊥
@@ -31,20 +31,20 @@ refusal n c e z = omega (arith, cause-pos c)
 
 -- ---- what a call on a state answered, put where the caller wants it
 
-module _ (e : Edited) (state : List ℕ) (count : ℕ) where
+module _ (e : Answered) (state : List ℕ) (count : ℕ) where
   pub kept-refused : {c : Cause} {n : ℕ} → e .outcome ≡ outcome.Refused c → n ≡ causeNumber c
       → editResult n state count ≡ kept (stateAnswer e) state count
   unfolding kept
   kept-refused {c} {n} x y =
-      let z : outcomeNumber (e .outcome) ≡ causeNumber c = ap outcomeNumber x in
+      let z : outcomeRefusal (e .outcome) ≡ causeNumber c = ap outcomeRefusal x in
       simp (ne-eqb _ _ (refusal _ c z)) (ap (λ (m : ℕ). editResult m state count) (y ∙ sym z))
 
-  pub kept-done : {n : ℕ} {b : List ℕ} → e .outcome ≡ outcome.Done n → b ≡ stateBytes (e .state)
+  pub kept-done : {p : Count} {n : ℕ} {b : List ℕ} → e .outcome ≡ outcome.Done p → b ≡ packedState (e .state) → n ≡ p .raised
       → editResult 0 b n ≡ kept (stateAnswer e) state count
   unfolding kept
-  kept-done {n} {b} x y =
-      let z : outcomeNumber (e .outcome) ≡ 0 = ap outcomeNumber x in
-      simp (eq-eqb _ _ z) (ap₂ (editResult 0) y (sym (ap outcomeCount x)))
+  kept-done {p} {n} {b} x y q =
+      let z : outcomeRefusal (e .outcome) ≡ 0 = ap outcomeRefusal x in
+      simp (eq-eqb _ _ z) (ap₂ (editResult 0) y (q ∙ sym (ap outcomeCount x)))
 
 -- the edit of the state that was read
 pub edit-call : (state : List ℕ) (e : Edit) (count : ℕ) {st : State} {a : StateAnswer} {x : EditCall} → st ≡ stateFrom state
@@ -55,7 +55,7 @@ edit-call state e count es ea ex =
 
 -- without the count
 uncounted : EditCall → StartCall
-uncounted x = startResult (x .number) (x .state)
+uncounted x = startResult (x .refusal) (x .state)
 
 kept-begun : (t : Bool) (n m c : ℕ) (b s : List ℕ)
     → uncounted (cond t (editResult 0 b m) (editResult n s c)) ≡ cond t (startResult 0 b) (startResult n s)
@@ -64,10 +64,10 @@ kept-begun true n m c b s = refl
 kept-begun false n m c b s = refl
 
 pub begin-call : (state : List ℕ) (count : ℕ) {a b : StateAnswer} {x : EditCall} → a ≡ b → x ≡ kept a state count
-    → startResult (x .number) (x .state) ≡ keptAtStart b state
+    → startResult (x .refusal) (x .state) ≡ keptAtStart b state
 unfolding kept keptAtStart uncounted
 begin-call state count {a} {b} e ex =
-    ap uncounted (ex ∙ ap (λ (y : StateAnswer). kept y state count) e) ∙ kept-begun (eqb (b .number) 0) _ _ _ _ _
+    ap uncounted (ex ∙ ap (λ (y : StateAnswer). kept y state count) e) ∙ kept-begun (eqb (b .refusal) 0) _ _ _ _ _
 
 -- ---- seal
 
@@ -76,14 +76,14 @@ module _ (r : Sealed) (state slip : List ℕ) where
       → sealResult n state slip ≡ stamped (sealAnswer r slip) state
   unfolding stamped
   stamped-refused {c} {n} x y =
-      let z : answerNumber (r .answer) ≡ causeNumber c = ap answerNumber x in
+      let z : answerRefusal (r .answer) ≡ causeNumber c = ap answerRefusal x in
       simp (ne-eqb _ _ (refusal _ c z)) (ap (λ (m : ℕ). sealResult m state slip) (y ∙ sym z))
 
-  pub stamped-done : {b : List ℕ} → r .answer ≡ answer.Done → b ≡ stateBytes (r .state)
+  pub stamped-done : {b : List ℕ} → r .answer ≡ answer.Done → b ≡ packedState (r .state)
       → sealResult 0 b slip ≡ stamped (sealAnswer r slip) state
   unfolding stamped
   stamped-done {b} x y =
-      let z : answerNumber (r .answer) ≡ 0 = ap answerNumber x in
+      let z : answerRefusal (r .answer) ≡ 0 = ap answerRefusal x in
       simp (eq-eqb _ _ z) (ap₂ (λ (m : ℕ) (t : List ℕ). sealResult m t slip) (sym z) y)
 
 -- the seal of the state that was read
@@ -95,25 +95,25 @@ seal-call state slip es ea ex =
 
 -- ---- check
 
-module _ (v : Verdict) (state : List ℕ) (held : ℕ) where
+module _ (v : Verdict) (held : ℕ) where
   pub judged-refused : {c : Cause} {n : ℕ} → v ≡ verdict.Refused c → n ≡ causeNumber c
-      → checkResult n state held ≡ judged (checkAnswer v) state held
+      → checkResult n held ≡ judged (checkAnswer v) held
   unfolding judged
   judged-refused {c} {n} x y =
-      let z : checkAnswer v .number ≡ causeNumber c = ap (λ (w : Verdict). checkAnswer w .number) x in
-      simp (ne-eqb _ _ (refusal _ c z)) (ap (λ (m : ℕ). checkResult m state held) (y ∙ sym z))
+      let z : checkAnswer v .refusal ≡ causeNumber c = ap (λ (w : Verdict). checkAnswer w .refusal) x in
+      simp (ne-eqb _ _ (refusal _ c z)) (ap (λ (m : ℕ). checkResult m held) (y ∙ sym z))
 
-  pub judged-genuine : v ≡ verdict.Genuine → checkResult 0 state 1 ≡ judged (checkAnswer v) state held
+  pub judged-genuine : v ≡ verdict.Genuine → checkResult 0 1 ≡ judged (checkAnswer v) held
   unfolding judged
-  judged-genuine x = sym (ap (λ (w : Verdict). judged (checkAnswer w) state held) x)
+  judged-genuine x = sym (ap (λ (w : Verdict). judged (checkAnswer w) held) x)
 
-  pub judged-not : v ≡ verdict.NotGenuine → checkResult 0 state 0 ≡ judged (checkAnswer v) state held
+  pub judged-not : v ≡ verdict.NotGenuine → checkResult 0 0 ≡ judged (checkAnswer v) held
   unfolding judged
-  judged-not x = sym (ap (λ (w : Verdict). judged (checkAnswer w) state held) x)
+  judged-not x = sym (ap (λ (w : Verdict). judged (checkAnswer w) held) x)
 
 -- the check of the state that was read
 pub check-call : (state slip : List ℕ) (held : ℕ) {st : State} {a : CheckAnswer} {x : CheckCall} → st ≡ stateFrom state → a ≡ checked st slip
-    → x ≡ judged a state held → x ≡ checkCall state slip held
+    → x ≡ judged a held → x ≡ checkCall state slip held
 unfolding checkCall
 check-call state slip held es ea ex =
-    ex ∙ ap (λ (b : CheckAnswer). judged b state held) (ea ∙ ap (λ (t : State). checked t slip) es)
+    ex ∙ ap (λ (b : CheckAnswer). judged b held) (ea ∙ ap (λ (t : State). checked t slip) es)

@@ -1,6 +1,5 @@
 -- The state's 84 bytes: what the code reads and writes, field by field, and that both undo each other. They rest on the field's laws of
 -- numbers and blocks as bytes and on the file keeper's of stores.
--- Assumes nothing.
 use mathlib.Core.Path.{_≡_, refl, sym, ap, ap₂, _∙_}
 use mathlib.Core.List.{List, [], _++_, append-nil, append-assoc}
 use Prim.Native.Nat.{ℕ, _+_, _*_, _^_, _<_}
@@ -14,8 +13,8 @@ use Rattle.field.specs.Field.{number, bytes, blockAt, bytesOf, Small}
 use Rattle.field.proofs.Bytes.{number-bytes, number-append-left, number-append-right, length-bytes, bytes-number}
 use Rattle.field.proofs.BlockAt.{blockAt-append-left, blockAt-append-right, blockAt-bytesOf, length-bytesOf, bytesOf-blockAt}
 use Rattle.file.specs.declared.states.State.{State}
-use Rattle.file.proofs.StoreLaws.{stored-none, stored-list, stored-next, stored-all}
-use Rattle.capi.specs.Bytes.{stateBytes, stateFrom}
+use Rattle.field.proofs.Stores.{stored-none, stored-list, stored-next, stored-all}
+use Rattle.capi.specs.Bytes.{stateBytes, packedState, stateFrom}
 
 -- a list of bytes
 abbrev pub AllBytes : List ℕ → Type 0
@@ -24,7 +23,7 @@ AllBytes s = (j : ℕ) → j < length s → getD s j 0 < 256
 -- ---- what the code does
 
 -- the key's bytes are there
-pub key-size : (b : List ℕ) → length b ≡ 84 → length (take 16 b) ≡ 16
+pub key-size : (b : List ℕ) → length b ≡ stateBytes → length (take 16 b) ≡ 16
 key-size b l = length-take-le 16 b (omega arith)
 
 -- the fields as they are read are the state
@@ -40,12 +39,12 @@ pub key-back : (key : List ℕ) {b : Block} → length key ≡ 16 → AllBytes k
 key-back key l small e = ap bytesOf e ∙ bytesOf-blockAt key 0 small (omega arith) ∙ take-all 16 key (omega arith)
 
 -- the fields stored one behind the other are the state's bytes: a after the first store, and so on to g
-pub encoded : (st : State) (out : List ℕ) (k : Block) {a b c d e f g : List ℕ} → length out ≡ 84 → bytesOf k ≡ st .key .bytes
+pub encoded : (st : State) (out : List ℕ) (k : Block) {a b c d e f g : List ℕ} → length out ≡ stateBytes → bytesOf k ≡ st .key .bytes
     → a ≡ sets out 0 (bytesOf k) → b ≡ sets a 16 (bytesOf (st .h)) → c ≡ sets b 32 (bytesOf (st .i)) → d ≡ sets c 48 (bytesOf (st .s))
-    → e ≡ sets d 64 (bytes 8 (st .n)) → f ≡ sets e 72 (bytes 4 (st .arm)) → g ≡ sets f 76 (bytes 8 (st .last)) → g ≡ stateBytes st
-unfolding stateBytes
+    → e ≡ sets d 64 (bytes 8 (st .n)) → f ≡ sets e 72 (bytes 4 (st .arm)) → g ≡ sets f 76 (bytes 8 (st .last)) → g ≡ packedState st
+unfolding packedState
 encoded st out k l ek ea eb ec ed ee ef eg =
-    let key = stored-list (st .key .bytes) 16 (ap length (sym ek) ∙ length-bytesOf k) (stored-none out) (ea ∙ ap (sets out 0) ek) in
+    let key = stored-list (st .key .bytes) 16 (ap length (sym ek) ∙ length-bytesOf k) (stored-none out 0) (ea ∙ ap (sets out 0) ek) in
     let h = stored-list (bytesOf (st .h)) 16 (length-bytesOf (st .h)) key eb in
     let i = stored-list (bytesOf (st .i)) 16 (length-bytesOf (st .i)) h ec in
     let s = stored-list (bytesOf (st .s)) 16 (length-bytesOf (st .s)) i ed in
@@ -62,6 +61,11 @@ pub record HasRoom (st : State) : Type 0 where
   pub n : st .n < 2 ^ 64
   pub arm : st .arm < 2 ^ 32
   pub last : st .last < 2 ^ 64
+
+-- and the state then takes `stateBytes` bytes
+pub packed-length : (st : State) → HasRoom st → length (packedState st) ≡ stateBytes
+unfolding packedState
+packed-length st room = simp (length-append, length-bytesOf, length-bytes, room .key)
 
 -- a block, and a number of k bytes, that stand behind a list and before another
 block-between : (p t : List ℕ) (b : Block) (i : ℕ) → length p ≡ 16 * i → Small b → blockAt (p ++ bytesOf b ++ t) i ≡ b
@@ -84,8 +88,8 @@ number-between p t at k v l small =
     ∙ mod-eq-of-lt small
 
 -- what is written of a state is read as that state
-pub state-back : (st : State) → HasRoom st → stateFrom (stateBytes st) ≡ st
-unfolding stateBytes
+pub state-back : (st : State) → HasRoom st → stateFrom (packedState st) ≡ st
+unfolding packedState
 state-back st room =
     let k = st .key .bytes in
     let h = bytesOf (st .h) in
@@ -121,9 +125,9 @@ state-back st room =
 join : (l : List ℕ) (n m : ℕ) {p q : List ℕ} → p ≡ take n l → q ≡ take m (drop n l) → p ++ q ≡ take (n + m) l
 join l n m e f = ap₂ _++_ e f ∙ sym (take-add n m l)
 
--- what is read of 84 bytes is written as those bytes
-pub bytes-back : (b : List ℕ) → length b ≡ 84 → AllBytes b → stateBytes (stateFrom b) ≡ b
-unfolding stateBytes stateFrom
+-- what is read of `stateBytes` bytes is written as those bytes
+pub bytes-back : (b : List ℕ) → length b ≡ stateBytes → AllBytes b → packedState (stateFrom b) ≡ b
+unfolding packedState stateFrom
 bytes-back b l small =
     let h = join b 16 16 refl (bytesOf-blockAt b 1 small (omega arith)) in
     let i = join b 32 16 h (bytesOf-blockAt b 2 small (omega arith)) in

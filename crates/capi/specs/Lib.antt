@@ -1,3 +1,5 @@
+-- The definitions; `Contracts` is what serves contracts alone.
 pub mod Bytes
 pub mod Calls
-pub mod Lists
+pub mod LentRuns
+pub mod Contracts

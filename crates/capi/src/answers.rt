@@ -1,17 +1,19 @@
 // The answers of the layers below, as numbers and lent bytes.
+use super::packing::STATE_BYTES;
 use super::packing::encode;
-use file::states::Edited;
-use file::states::Outcome;
+use file::Answered;
+use file::Outcome;
 ghost use mathlib.Core.Path.{_≡_};
 ghost use Rattle.cipher.specs.Aes;
 ghost use Rattle.field.specs.Field;
-ghost use Rattle.file.specs.Causes;
-ghost use Rattle.file.specs.States.{stateAnswer};
-ghost use Rattle.capi.specs.Calls.{editResult, kept};
+ghost use Rattle.gcm.specs.Gcm;
+ghost use Rattle.file.specs.Contracts.{stateAnswer};
+ghost use Rattle.capi.specs.Calls.{kept};
+ghost use Rattle.capi.specs.Contracts.{editResult};
 
 // The number of a cipher's answer.
 pub fn cipher_number(a: cipher::Answer) -> u64
-    ensures { λ r. ⌜ r ≡ Aes.answerNumber a ⌝ }
+    ensures { λ r. ⌜ r ≡ Aes.answerRefusal a ⌝ }
 {
     match a {
         cipher::Answer::Done => 0,
@@ -24,7 +26,7 @@ pub fn cipher_number(a: cipher::Answer) -> u64
 
 // The number of a field's answer.
 pub fn field_number(a: field::Answer) -> u64
-    ensures { λ r. ⌜ r ≡ Field.answerNumber a ⌝ }
+    ensures { λ r. ⌜ r ≡ Field.answerRefusal a ⌝ }
 {
     match a {
         field::Answer::Done => 0,
@@ -36,28 +38,33 @@ pub fn field_number(a: field::Answer) -> u64
     }
 }
 
-// The number of a file keeper's answer.
-pub fn file_number(a: file::causes::Answer) -> u64
-    ensures { λ r. ⌜ r ≡ Causes.answerNumber a ⌝ }
+// The number of GMAC's answer.
+pub fn gcm_number(a: gcm::Answer) -> u64
+    ensures { λ r. ⌜ r ≡ Gcm.answerRefusal a ⌝ }
 {
     match a {
-        file::causes::Answer::Done => 0,
-        file::causes::Answer::Refused(cause) => cause.number(),
+        gcm::Answer::Done => 0,
+        gcm::Answer::Refused(cause) => match cause {
+            gcm::Cause::KeyLength => 1,
+            gcm::Cause::EmptyNonce => 9,
+            gcm::Cause::OutputLength => 7,
+            gcm::Cause::TooLong => 2,
+        },
     }
 }
 
 // What a call on a state answered, put where the caller wants it: where it was accepted, the state and its count are written; where it was
 // refused, both stay as they were.
-pub fn keep(e: Edited, state: &mut [u8; 84], count: &mut u64) -> u64
+pub fn keep(e: Answered, state: &mut [u8; STATE_BYTES], count: &mut u64) -> u64
     ensures { λ r. ⌜ editResult r (now (state .exit)) (now (count .exit)) ≡ kept (stateAnswer e) (now (state .entry)) (now (count .entry)) ⌝ }
 {
     let outcome = e.outcome;
     match outcome {
         Outcome::Refused(cause) => cause.number(),
-        Outcome::Done(n) => {
+        Outcome::Done(products) => {
             let st = e.state;
             encode(st, state);
-            *count = n;
+            *count = products.number();
             0
         }
     }

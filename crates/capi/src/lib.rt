@@ -5,24 +5,30 @@ mod packing;
 
 use answers::cipher_number;
 use answers::field_number;
-use answers::file_number;
+use answers::gcm_number;
 use answers::keep;
+use file::Answer;
 use file::State;
-use file::causes::Answer;
-use file::slips::Verdict;
+use file::Verdict;
+use packing::STATE_BYTES;
+use packing::arm_of;
 use packing::decode;
 use packing::encode;
+use packing::last_of;
+use packing::length_of;
 ghost use mathlib.Core.Path.{_≡_};
-ghost use Rattle.cipher.specs.Aes.{encryptNumber, encryptOutput};
-ghost use Rattle.field.specs.Field.{multiplyNumber, multiplyOutput, ghashNumber, ghashOutput};
-ghost use Rattle.file.specs.Tags.{gmacNumber, gmacOutput};
+ghost use Rattle.cipher.specs.Aes.{encryptRefusal, encryptOutput};
+ghost use Rattle.field.specs.Field.{multiplyRefusal, multiplyOutput, ghashRefusal, ghashOutput};
+ghost use Rattle.gcm.specs.Gcm.{gmacRefusal, gmacOutput};
 ghost use Rattle.file.specs.Edits;
-ghost use Rattle.capi.specs.Calls.{editResult, editCall, startResult, startCall, readCall, sealResult, sealCall, checkResult, checkCall};
+ghost use Rattle.capi.specs.Bytes.{stateFrom};
+ghost use Rattle.capi.specs.Calls.{editCall, startCall, readCall, sealCall, checkCall};
+ghost use Rattle.capi.specs.Contracts.{editResult, startResult, sealResult, checkResult};
 
 // AES-128 of one block. Refused, in this order, with 1 where key or block is not 16 bytes and with 7 where out is not.
 #[no_mangle]
 pub extern "C" fn armfile_encrypt(key: &[u8], block: &[u8], out: &mut [u8]) -> u64
-    ensures answer { λ r. ⌜ r ≡ encryptNumber (now (key .entry)) (now (block .entry)) (now (out .entry)) ⌝ }
+    ensures answer { λ r. ⌜ r ≡ encryptRefusal (now (key .entry)) (now (block .entry)) (now (out .entry)) ⌝ }
     ensures output { λ _. ⌜ now (out .exit) ≡ encryptOutput (now (key .entry)) (now (block .entry)) (now (out .entry)) ⌝ }
 {
     cipher_number(cipher::encrypt(key, block, out))
@@ -31,7 +37,7 @@ pub extern "C" fn armfile_encrypt(key: &[u8], block: &[u8], out: &mut [u8]) -> u
 // The product of two blocks. Refused, in this order, with 1 where a or b is not 16 bytes and with 7 where out is not.
 #[no_mangle]
 pub extern "C" fn armfile_multiply(a: &[u8], b: &[u8], out: &mut [u8]) -> u64
-    ensures answer { λ r. ⌜ r ≡ multiplyNumber (now (a .entry)) (now (b .entry)) (now (out .entry)) ⌝ }
+    ensures answer { λ r. ⌜ r ≡ multiplyRefusal (now (a .entry)) (now (b .entry)) (now (out .entry)) ⌝ }
     ensures output { λ _. ⌜ now (out .exit) ≡ multiplyOutput (now (a .entry)) (now (b .entry)) (now (out .entry)) ⌝ }
 {
     field_number(field::multiply(a, b, out))
@@ -41,7 +47,7 @@ pub extern "C" fn armfile_multiply(a: &[u8], b: &[u8], out: &mut [u8]) -> u64
 // a or c passes 2^61 - 1 bytes.
 #[no_mangle]
 pub extern "C" fn armfile_ghash(h: &[u8], a: &[u8], c: &[u8], out: &mut [u8]) -> u64
-    ensures answer { λ r. ⌜ r ≡ ghashNumber (now (h .entry)) (now (a .entry)) (now (c .entry)) (now (out .entry)) ⌝ }
+    ensures answer { λ r. ⌜ r ≡ ghashRefusal (now (h .entry)) (now (a .entry)) (now (c .entry)) (now (out .entry)) ⌝ }
     ensures output { λ _. ⌜ now (out .exit) ≡ ghashOutput (now (h .entry)) (now (a .entry)) (now (c .entry)) (now (out .entry)) ⌝ }
 {
     field_number(field::ghash(h, a, c, out))
@@ -51,10 +57,10 @@ pub extern "C" fn armfile_ghash(h: &[u8], a: &[u8], c: &[u8], out: &mut [u8]) ->
 // out is not 16 bytes, and with 2 where nonce or a passes 2^61 - 1 bytes.
 #[no_mangle]
 pub extern "C" fn armfile_gmac(key: &[u8], nonce: &[u8], a: &[u8], out: &mut [u8]) -> u64
-    ensures answer { λ r. ⌜ r ≡ gmacNumber (now (key .entry)) (now (nonce .entry)) (now (a .entry)) (now (out .entry)) ⌝ }
+    ensures answer { λ r. ⌜ r ≡ gmacRefusal (now (key .entry)) (now (nonce .entry)) (now (a .entry)) (now (out .entry)) ⌝ }
     ensures output { λ _. ⌜ now (out .exit) ≡ gmacOutput (now (key .entry)) (now (nonce .entry)) (now (a .entry)) (now (out .entry)) ⌝ }
 {
-    file_number(file::gmac(key, nonce, a, out))
+    gcm_number(gcm::gmac(key, nonce, a, out))
 }
 
 // The state of n zero bytes. Refused, in this order, with 1 where the key is not 16 bytes and with 2 where n passes 2^61 - 1; the lent state
@@ -65,9 +71,10 @@ pub extern "C" fn armfile_start(
     arm: u32,
     last: u64,
     n: u64,
-    state: &mut [u8; 84],
+    state: &mut [u8; STATE_BYTES],
 ) -> u64
-    ensures { λ r. ⌜ startResult r (now (state .exit)) ≡ startCall (now (key .entry)) arm last n (now (state .entry)) ⌝ }
+    ensures { λ r. ⌜ startResult r (now (state .exit)) ≡ startCall (record { key = now (key .entry); arm = arm; last = last; n = n })
+        (now (state .entry)) ⌝ }
 {
     let mut none = 0u64;
     keep(State::start(key, arm, last, n), state, &mut none)
@@ -81,9 +88,10 @@ pub extern "C" fn armfile_read(
     arm: u32,
     last: u64,
     file: &[u8],
-    state: &mut [u8; 84],
+    state: &mut [u8; STATE_BYTES],
 ) -> u64
-    ensures { λ r. ⌜ startResult r (now (state .exit)) ≡ readCall (now (key .entry)) arm last (now (file .entry)) (now (state .entry)) ⌝ }
+    ensures { λ r. ⌜ startResult r (now (state .exit)) ≡ readCall (record { key = now (key .entry); arm = arm; last = last; file = now (file .entry) })
+        (now (state .entry)) ⌝ }
 {
     let mut none = 0u64;
     keep(State::read(key, arm, last, file), state, &mut none)
@@ -92,7 +100,7 @@ pub extern "C" fn armfile_read(
 // Bytes p to p + l - 1 become new; old and new are of l bytes each. Refused as `State::change` is; state and count then stay as they were.
 #[no_mangle]
 pub extern "C" fn armfile_change(
-    state: &mut [u8; 84],
+    state: &mut [u8; STATE_BYTES],
     p: u64,
     old: &[u8],
     new: &[u8],
@@ -107,7 +115,11 @@ pub extern "C" fn armfile_change(
 
 // The given bytes go after the last. Refused as `State::append` is; state and count then stay as they were.
 #[no_mangle]
-pub extern "C" fn armfile_append(state: &mut [u8; 84], bytes: &[u8], count: &mut u64) -> u64
+pub extern "C" fn armfile_append(
+    state: &mut [u8; STATE_BYTES],
+    bytes: &[u8],
+    count: &mut u64,
+) -> u64
     ensures { λ r. ⌜ editResult r (now (state .exit)) (now (count .exit))
         ≡ editCall (now (state .entry)) (Edits.append (now (bytes .entry))) (now (count .entry)) ⌝ }
 {
@@ -117,7 +129,11 @@ pub extern "C" fn armfile_append(state: &mut [u8; 84], bytes: &[u8], count: &mut
 
 // The given bytes go before the first. Refused as `State::prepend` is; state and count then stay as they were.
 #[no_mangle]
-pub extern "C" fn armfile_prepend(state: &mut [u8; 84], bytes: &[u8], count: &mut u64) -> u64
+pub extern "C" fn armfile_prepend(
+    state: &mut [u8; STATE_BYTES],
+    bytes: &[u8],
+    count: &mut u64,
+) -> u64
     ensures { λ r. ⌜ editResult r (now (state .exit)) (now (count .exit))
         ≡ editCall (now (state .entry)) (Edits.prepend (now (bytes .entry))) (now (count .entry)) ⌝ }
 {
@@ -127,7 +143,11 @@ pub extern "C" fn armfile_prepend(state: &mut [u8; 84], bytes: &[u8], count: &mu
 
 // The given bytes leave the front. Refused as `State::drop_front` is; state and count then stay as they were.
 #[no_mangle]
-pub extern "C" fn armfile_drop_front(state: &mut [u8; 84], bytes: &[u8], count: &mut u64) -> u64
+pub extern "C" fn armfile_drop_front(
+    state: &mut [u8; STATE_BYTES],
+    bytes: &[u8],
+    count: &mut u64,
+) -> u64
     ensures { λ r. ⌜ editResult r (now (state .exit)) (now (count .exit))
         ≡ editCall (now (state .entry)) (Edits.dropFront (now (bytes .entry))) (now (count .entry)) ⌝ }
 {
@@ -137,7 +157,11 @@ pub extern "C" fn armfile_drop_front(state: &mut [u8; 84], bytes: &[u8], count: 
 
 // The given bytes leave the end. Refused as `State::cut_tail` is; state and count then stay as they were.
 #[no_mangle]
-pub extern "C" fn armfile_cut_tail(state: &mut [u8; 84], bytes: &[u8], count: &mut u64) -> u64
+pub extern "C" fn armfile_cut_tail(
+    state: &mut [u8; STATE_BYTES],
+    bytes: &[u8],
+    count: &mut u64,
+) -> u64
     ensures { λ r. ⌜ editResult r (now (state .exit)) (now (count .exit))
         ≡ editCall (now (state .entry)) (Edits.cutTail (now (bytes .entry))) (now (count .entry)) ⌝ }
 {
@@ -148,7 +172,7 @@ pub extern "C" fn armfile_cut_tail(state: &mut [u8; 84], bytes: &[u8], count: &m
 // Seals the file: the last used number rises by one, and the slip gets the new one and the file's tag under it. Refused as `State::seal`
 // is; state and slip then stay as they were.
 #[no_mangle]
-pub extern "C" fn armfile_seal(state: &mut [u8; 84], slip: &mut [u8]) -> u64
+pub extern "C" fn armfile_seal(state: &mut [u8; STATE_BYTES], slip: &mut [u8]) -> u64
     ensures { λ r. ⌜ sealResult r (now (state .exit)) (now (slip .exit)) ≡ sealCall (now (state .entry)) (now (slip .entry)) ⌝ }
 {
     let st = decode(state);
@@ -162,12 +186,34 @@ pub extern "C" fn armfile_seal(state: &mut [u8; 84], slip: &mut [u8]) -> u64
     0
 }
 
-// Whether a slip is of the file: the verdict is 1 for genuine and 0 for not. Refused as `State::check` is; the verdict then stays as it
-// was. The state stays as it was.
+// The file's length in bytes, as the state holds it.
 #[no_mangle]
-pub extern "C" fn armfile_check(state: &mut [u8; 84], slip: &[u8], verdict: &mut u8) -> u64
-    ensures { λ r. ⌜ checkResult r (now (state .exit)) (now (verdict .exit))
-        ≡ checkCall (now (state .entry)) (now (slip .entry)) (now (verdict .entry)) ⌝ }
+pub extern "C" fn armfile_length(state: &[u8; STATE_BYTES]) -> u64
+    ensures { λ r. ⌜ r ≡ stateFrom (now (state .entry)) .n ⌝ }
+{
+    length_of(state)
+}
+
+// The arm number, as the state holds it.
+#[no_mangle]
+pub extern "C" fn armfile_arm(state: &[u8; STATE_BYTES]) -> u32
+    ensures { λ r. ⌜ r ≡ stateFrom (now (state .entry)) .arm ⌝ }
+{
+    arm_of(state)
+}
+
+// The last used seal number, as the state holds it.
+#[no_mangle]
+pub extern "C" fn armfile_last(state: &[u8; STATE_BYTES]) -> u64
+    ensures { λ r. ⌜ r ≡ stateFrom (now (state .entry)) .last ⌝ }
+{
+    last_of(state)
+}
+
+// Whether a slip is of the file: the verdict is 1 for genuine and 0 for not. Refused as `State::check` is; the verdict then stays as it was.
+#[no_mangle]
+pub extern "C" fn armfile_check(state: &[u8; STATE_BYTES], slip: &[u8], verdict: &mut u8) -> u64
+    ensures { λ r. ⌜ checkResult r (now (verdict .exit)) ≡ checkCall (now (state .entry)) (now (slip .entry)) (now (verdict .entry)) ⌝ }
 {
     let st = decode(state);
     let v = st.check(slip);

@@ -6,10 +6,13 @@ use field::packing::store;
 use file::State;
 ghost use mathlib.Core.Path.{_≡_};
 ghost use Rattle.field.specs.Field.{bytesOf};
-ghost use Rattle.capi.specs.Bytes.{stateBytes, stateFrom};
+ghost use Rattle.capi.specs.Bytes.{packedState, stateFrom};
+
+// How many bytes hold a state.
+pub const STATE_BYTES: usize = 84;
 
 // The state that the bytes hold.
-pub fn decode(b: &[u8; 84]) -> State
+pub fn decode(b: &[u8; STATE_BYTES]) -> State
     ensures { λ r. ⌜ r ≡ stateFrom (now (b .entry)) ⌝ }
 {
     let all: &[u8] = b;
@@ -17,9 +20,9 @@ pub fn decode(b: &[u8; 84]) -> State
     let h = Block::load(0, all, 1);
     let i = Block::load(0, all, 2);
     let s = Block::load(0, all, 3);
-    let n = number_at(0, all, 64, 8);
-    let arm = number_at(0, all, 72, 4) as u32;
-    let last = number_at(0, all, 76, 8);
+    let n = length_of(b);
+    let arm = arm_of(b);
+    let last = last_of(b);
     State {
         key,
         h,
@@ -31,9 +34,33 @@ pub fn decode(b: &[u8; 84]) -> State
     }
 }
 
+// The file's length in the state that the bytes hold.
+pub fn length_of(b: &[u8; STATE_BYTES]) -> u64
+    ensures { λ r. ⌜ r ≡ stateFrom (now (b .entry)) .n ⌝ }
+{
+    let all: &[u8] = b;
+    number_at(0, all, 64, 8)
+}
+
+// The arm number there.
+pub fn arm_of(b: &[u8; STATE_BYTES]) -> u32
+    ensures { λ r. ⌜ r ≡ stateFrom (now (b .entry)) .arm ⌝ }
+{
+    let all: &[u8] = b;
+    number_at(0, all, 72, 4) as u32
+}
+
+// The last used seal number there.
+pub fn last_of(b: &[u8; STATE_BYTES]) -> u64
+    ensures { λ r. ⌜ r ≡ stateFrom (now (b .entry)) .last ⌝ }
+{
+    let all: &[u8] = b;
+    number_at(0, all, 76, 8)
+}
+
 // The bytes of a state, written over all that stood there.
-pub fn encode(st: State, out: &mut [u8; 84])
-    ensures { λ _. ⌜ now (out .exit) ≡ stateBytes st ⌝ }
+pub fn encode(st: State, out: &mut [u8; STATE_BYTES])
+    ensures { λ _. ⌜ now (out .exit) ≡ packedState st ⌝ }
 {
     let key = st.key;
     key_block(key).write(out, 0);

@@ -1,5 +1,4 @@
 -- `capi::armfile_change` meets its contract. It is `State::change` of the state that is read, kept where it is accepted (`CallLaws`).
--- Assumes nothing.
 use borrow.Author.Needs.{needs}
 use Rattle.capi.proofs.CallLaws.{edit-call}
 use Rattle.capi.proofs.armfile_change.Statement.{statement}

@@ -1,5 +1,4 @@
--- `capi::armfile_check` meets its contract. It is `State::check` of the state that is read, by a law of `CallLaws` for each return. Assumes
--- nothing.
+-- `capi::armfile_check` meets its contract. It is `State::check` of the state that is read, by a law of `CallLaws` for each return.
 use borrow.Author.Needs.{needs}
 use Rattle.capi.proofs.CallLaws.{check-call, judged-refused, judged-genuine, judged-not}
 use Rattle.capi.proofs.armfile_check.Statement.{statement}
@@ -27,19 +26,19 @@ returns : tie.Need-returns
 returns c =
     let check = c .before .before .before .before in
     check-call _ _ _ (check .before .decode .ensures) (check .check .ensures)
-    (judged-refused _ _ _ (c .before .before .v .given .1) (c .number .ensures))
+    (judged-refused _ _ (c .before .before .v .given .1) (c .number .ensures))
 
 returns-2 : tie.Need-returns-2
 returns-2 c =
     let check = c .before .before in
     check-call _ _ _ (check .before .decode .ensures) (check .check .ensures)
-    (judged-genuine _ _ _ (c .enum-told .given .1))
+    (judged-genuine _ _ (c .enum-told .given .1))
 
 returns-3 : tie.Need-returns-3
 returns-3 c =
     let check = c .before .before in
     check-call _ _ _ (check .before .decode .ensures) (check .check .ensures)
-    (judged-not _ _ _ (c .enum-told2 .given .1))
+    (judged-not _ _ (c .enum-told2 .given .1))
 
 pub armfile-check-spec : {M : Type 1} → statement M
 armfile-check-spec =

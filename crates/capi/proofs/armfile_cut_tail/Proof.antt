@@ -1,5 +1,4 @@
 -- `capi::armfile_cut_tail` meets its contract. It is `State::cut_tail` of the state that is read, kept where it is accepted (`CallLaws`).
--- Assumes nothing.
 use borrow.Author.Needs.{needs}
 use Rattle.capi.proofs.CallLaws.{edit-call}
 use Rattle.capi.proofs.armfile_cut_tail.Statement.{statement}

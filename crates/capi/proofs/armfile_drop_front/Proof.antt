@@ -1,5 +1,5 @@
 -- `capi::armfile_drop_front` meets its contract. It is `State::drop_front` of the state that is read, kept where it is accepted
--- (`CallLaws`). Assumes nothing.
+-- (`CallLaws`).
 use borrow.Author.Needs.{needs}
 use Rattle.capi.proofs.CallLaws.{edit-call}
 use Rattle.capi.proofs.armfile_drop_front.Statement.{statement}

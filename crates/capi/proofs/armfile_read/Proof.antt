@@ -1,4 +1,4 @@
--- `capi::armfile_read` meets its contract. It is `State::read`, kept where it is accepted (`CallLaws`). Assumes nothing.
+-- `capi::armfile_read` meets its contract. It is `State::read`, kept where it is accepted (`CallLaws`).
 use borrow.Author.Needs.{needs}
 use Rattle.capi.specs.Calls.{readCall}
 use Rattle.capi.proofs.CallLaws.{begin-call}

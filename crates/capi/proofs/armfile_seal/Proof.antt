@@ -1,5 +1,4 @@
--- `capi::armfile_seal` meets its contract. It is `State::seal` of the state that is read, by a law of `CallLaws` for each return. Assumes
--- nothing.
+-- `capi::armfile_seal` meets its contract. It is `State::seal` of the state that is read, by a law of `CallLaws` for each return.
 use borrow.Author.Needs.{needs}
 use Rattle.capi.proofs.CallLaws.{seal-call, stamped-refused, stamped-done}
 use Rattle.capi.proofs.armfile_seal.Statement.{statement}

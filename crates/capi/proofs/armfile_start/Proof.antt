@@ -1,4 +1,4 @@
--- `capi::armfile_start` meets its contract. It is `State::start`, kept where it is accepted (`CallLaws`). Assumes nothing.
+-- `capi::armfile_start` meets its contract. It is `State::start`, kept where it is accepted (`CallLaws`).
 use borrow.Author.Needs.{needs}
 use Rattle.capi.specs.Calls.{startCall}
 use Rattle.capi.proofs.CallLaws.{begin-call}

@@ -1,10 +1,8 @@
--- `capi::packing::decode` meets its contract. The key's sixteen bytes, three blocks and three numbers are the state (`StateBytes`). Assumes
--- nothing.
+-- `capi::packing::decode` meets its contract. The key's sixteen bytes, three blocks and three numbers are the state (`StateBytes`).
 use mathlib.Core.Path.{sym}
-use native.Mathlib.Omega.{arith}
 use borrow.Author.Needs.{needs}
 use Rattle.cipher.proofs.AesLaws.{length-fits}
-use Rattle.field.proofs.Bytes.{number-lt}
+use Rattle.capi.specs.Bytes.{stateFrom}
 use Rattle.capi.proofs.StateBytes.{key-size, decoded}
 use Rattle.capi.proofs.packing.decode.Statement.{statement}
 use Rattle.capi.proofs.packing.decode.Tie as tie
@@ -24,26 +22,22 @@ load-requires-2 c κs = search needs
 load-requires-3 : tie.Need-load-requires-3
 load-requires-3 c κs = search needs
 
-number-at-requires : tie.Need-number-at-requires
-number-at-requires c κs = search needs
+length-of-requires : tie.Need-length-of-requires
+length-of-requires c κs = search needs
 
-number-at-requires-2 : tie.Need-number-at-requires-2
-number-at-requires-2 c κs = search needs
+arm-of-requires : tie.Need-arm-of-requires
+arm-of-requires c κs = search needs
 
-cast-arm : tie.Need-cast-arm
-cast-arm c =
-    let start = c .before .before .before .before .before .before .before .before in
-    omega (arith, c .number-at2 .ensures, number-lt (start .args .b .now) 72 4)
-
-number-at-requires-3 : tie.Need-number-at-requires-3
-number-at-requires-3 c κs = search needs
+last-of-requires : tie.Need-last-of-requires
+last-of-requires c κs = search needs
 
 returns : tie.Need-returns
+unfolding stateFrom
 returns c =
     let h = c .before .before .before .before .before in
     decoded _ (h .before .from-bytes .ensures) (h .load .ensures) (c .before .before .before .before .load2 .ensures)
-    (c .before .before .before .load3 .ensures) (c .before .before .number-at .ensures) (c .before .number-at2 .ensures)
-    (c .number-at3 .ensures)
+    (c .before .before .before .load3 .ensures) (c .before .before .length-of .ensures) (c .before .arm-of .ensures)
+    (c .last-of .ensures)
 
 pub decode-spec : {M : Type 1} → statement M
 decode-spec =
@@ -54,8 +48,7 @@ decode-spec =
     load-requires
     load-requires-2
     load-requires-3
-    number-at-requires
-    number-at-requires-2
-    cast-arm
-    number-at-requires-3
+    length-of-requires
+    arm-of-requires
+    last-of-requires
     returns)

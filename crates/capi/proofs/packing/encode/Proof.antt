@@ -1,4 +1,4 @@
--- `capi::packing::encode` meets its contract. The fields stored one behind the other are the state's bytes (`StateBytes`). Assumes nothing.
+-- `capi::packing::encode` meets its contract. The fields stored one behind the other are the state's bytes (`StateBytes`).
 use borrow.Author.Needs.{needs}
 use Rattle.capi.proofs.StateBytes.{encoded}
 use Rattle.capi.proofs.packing.encode.Statement.{statement}

@@ -1,4 +1,4 @@
--- `capi::packing::key_block` meets its contract. Sixteen bytes that are read as a block are its bytes (`StateBytes`). Assumes nothing.
+-- `capi::packing::key_block` meets its contract. Sixteen bytes that are read as a block are its bytes (`StateBytes`).
 use lib.ListN.{getD}
 use mir.Syntax.{w8}
 use mir.Val.{Fits}
