@@ -1,8 +1,10 @@
 // The bench cases of document 01 that are no theorems: each line names a case and prints the refusal's number, 0 where it was accepted.
+use field::hashing::MAX_BYTES;
+use file::Answer;
+use file::Answered;
+use file::Outcome;
+use file::SLIP_BYTES;
 use file::State;
-use file::causes::Answer;
-use file::states::Edited;
-use file::states::Outcome;
 use libc::STDOUT_FILENO;
 
 fn main() {
@@ -32,14 +34,14 @@ fn starts() {
     );
     print_edit(
         b"start with 2^61 - 1 bytes",
-        State::start(key, 7, 0, 0x1fff_ffff_ffff_ffff),
+        State::start(key, 7, 0, MAX_BYTES),
     );
 }
 
 // The last two seal numbers.
 fn seals() {
     let near = State::start(b"a key for arm 7.", 7, 0xffff_ffff_ffff_fffe, 40).state;
-    let mut slip = [0u8; 36];
+    let mut slip = [0u8; SLIP_BYTES];
     let once = near.seal(&mut slip);
     let st = once.state;
     let first = once.answer;
@@ -49,8 +51,8 @@ fn seals() {
     print_answer(b"seal after 2^64 - 1", second);
 }
 
-fn print_edit(name: &[u8], edited: Edited) {
-    let outcome = edited.outcome;
+fn print_edit(name: &[u8], answered: Answered) {
+    let outcome = answered.outcome;
     match outcome {
         Outcome::Done(_) => print_number(name, 0),
         Outcome::Refused(cause) => print_number(name, cause.number()),

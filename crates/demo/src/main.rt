@@ -1,9 +1,10 @@
 // One motion file's life: a blank start, four edits, a seal, and after a restart one read of the card and a check of the slip. Each step
 // prints the file's length, the running sum and the count of products, or the verdict.
+use file::Answered;
+use file::Outcome;
+use file::SLIP_BYTES;
 use file::State;
-use file::slips::Verdict;
-use file::states::Edited;
-use file::states::Outcome;
+use file::Verdict;
 use libc::STDOUT_FILENO;
 
 const ARM: u32 = 7;
@@ -15,7 +16,7 @@ fn main() {
     let st = print_step(b"append 9 bytes", st.append(b"gripper A"));
     let st = print_step(b"prepend 16 bytes", st.prepend(b"motion file head"));
     let st = print_step(b"cut 4 bytes", st.cut_tail(b"er A"));
-    let mut slip = [0u8; 36];
+    let mut slip = [0u8; SLIP_BYTES];
     st.seal(&mut slip);
     io::write_all(STDOUT_FILENO, b"seal: slip ");
     print_bytes(&slip);
@@ -30,7 +31,7 @@ fn main() {
 }
 
 // One read of the card, and a check of the slip.
-fn check(name: &[u8], card: &[u8; 61], slip: &[u8; 36]) {
+fn check(name: &[u8], card: &[u8; 61], slip: &[u8; SLIP_BYTES]) {
     let key = b"a key for arm 7.";
     let st = print_step(b"read the card", State::read(key, ARM, 1, card));
     print_verdict(name, st.check(slip));
@@ -49,7 +50,7 @@ fn print_byte(b: u8) {
 }
 
 // Prints what a call answered, and hands on the state.
-fn print_step(name: &[u8], answer: Edited) -> State {
+fn print_step(name: &[u8], answer: Answered) -> State {
     let st = answer.state;
     let outcome = answer.outcome;
     io::write_all(STDOUT_FILENO, name);
@@ -62,7 +63,7 @@ fn print_step(name: &[u8], answer: Edited) -> State {
             io::print_hex(STDOUT_FILENO, s.hi, 16);
             io::print_hex(STDOUT_FILENO, s.lo, 16);
             io::write_all(STDOUT_FILENO, b", count ");
-            io::print_decimal(STDOUT_FILENO, count);
+            io::print_decimal(STDOUT_FILENO, count.number());
         }
         Outcome::Refused(cause) => {
             io::write_all(STDOUT_FILENO, b": refused ");

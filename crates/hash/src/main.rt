@@ -1,108 +1,120 @@
 // The hash program of document 01: standard input is 16 bytes of H and then the file, of any length. It prints the file's byte and block
 // counts and GHASH(H, file, nothing), or a refusal's number alone: 1 for less than 16 bytes of input, 2 for a file of more than 2^61 - 1.
-// That the hash of the chunks is the hash of the file is field's law `stream-ghash`: every chunk but the last fills the buffer, which is
-// whole blocks.
-use field::Block;
-use field::hashing::LIMIT;
-use field::streaming::Stream;
-use field::summing::blocks;
-use libc::STDERR_FILENO;
-use libc::STDIN_FILENO;
-use libc::STDOUT_FILENO;
-ghost use Prim.Native.Nat.{_≤_};
-ghost use lib.ListN.{length};
-ghost use Rattle.field.specs.Field.{limit};
+mod input;
+mod lines;
 
-// How many bytes a buffer was given, and whether a read failed; with fewer than the buffer holds and no failure the input has ended.
-struct Given {
-    n: usize,
-    failed: bool,
-}
+use field::Block;
+use field::hashing::MAX_BYTES;
+use field::streaming::Stream;
+use input::Given;
+use input::Input;
+use libc::STDERR_FILENO;
+use libc::STDOUT_FILENO;
+use lines::LINES_BYTES;
+use lines::lines;
+ghost use mathlib.Core.Path.{_≡_};
+ghost use mathlib.Core.Bool.{true};
+ghost use Prim.Native.Nat.{_+_, _≤_, _<_, _^_};
+ghost use lib.ListN.{length};
+ghost use Rattle.hash.specs.Reading.{ReadWhole};
 
 fn main() {
+    if os::arg_count() > 1 {
+        complain(b"usage: hash < INPUT (16 bytes of H, then the file)\n");
+        return;
+    }
     let mut key = [0u8; 16];
-    let given = fill(&mut key);
-    if given.failed {
-        complain();
+    let given = fill(Input::new(), &mut key);
+    let input = given.input;
+    if input.failed() {
+        unreadable();
         return;
     }
     if given.n < 16 {
-        io::write_all(STDOUT_FILENO, b"refused 1\n");
+        say(b"refused 1\n");
         return;
     }
-    hash_file(Block::from_bytes(&key));
+    hash_file(input, Block::from_bytes(&key));
 }
 
-// Reads until the buffer is full, the input ends or a read fails.
-fn fill(buf: &mut [u8]) -> Given
-    ensures { λ r. ⌜ r .n ≤ length (now (buf .exit)) ⌝ }
+// Reads until the buffer is full, the input ends or a read fails. The requires: the count of bytes given has room.
+fn fill(input: Input, buf: &mut [u8]) -> Given
+    requires { ⌜ input .n + length (now buf) < 2 ^ 64 ⌝ }
+    ensures within { λ r. ⌜ r .n ≤ length (now (buf .exit)) ⌝ }
+    ensures full { λ r. ⌜ (r .input .more ≡ true → r .n ≡ length (now (buf .exit))) ⌝ }
+    ensures counted { λ r. ⌜ r .input .n ≡ input .n + r .n ⌝ }
 {
+    let mut source = input;
     let mut n = 0;
     while n < buf.len() {
-        let more = read_some(&mut buf[n..]);
-        n += more.n;
-        if more.failed {
-            return Given { n, failed: true };
-        }
-        if more.n == 0 {
-            return Given { n, failed: false };
+        let given = source.read(&mut buf[n..]);
+        let next = given.input;
+        source = next;
+        n += given.n;
+        if !source.more() {
+            return Given { input: source, n };
         }
     }
-    Given { n, failed: false }
+    Given { input: source, n }
 }
 
-// Reads once.
-fn read_some(buf: &mut [u8]) -> Given
-    ensures { λ r. ⌜ r .n ≤ length (now (buf .exit)) ⌝ }
+// Takes the file a buffer at a time, and prints its lines at its end. The requires: 16 bytes, the key, were given before.
+fn hash_file(input: Input, h: Block)
+    requires { ⌜ input .n ≡ 16 ⌝ }
 {
-    let got = libc::read(STDIN_FILENO, buf);
-    Given {
-        n: io::count(got, buf),
-        failed: got < 0,
-    }
-}
-
-// Takes the file a buffer at a time, and prints its hash at its end.
-fn hash_file(h: Block) {
+    let mut source = input;
     let mut stream = Stream::new(h);
     let mut buf = io::large_buffer();
     loop {
-        let given = fill(&mut buf);
-        if given.failed {
-            complain();
+        let given = fill(source, &mut buf);
+        let next = given.input;
+        source = next;
+        if source.failed() {
+            unreadable();
             return;
         }
         let n = given.n;
-        if LIMIT as u64 - stream.n < n as u64 {
-            io::write_all(STDOUT_FILENO, b"refused 2\n");
+        if MAX_BYTES - stream.n < n as u64 {
+            too_long();
             return;
         }
-        let next = stream.absorb(&buf[..n]);
-        stream = next;
-        if n < buf.len() {
-            print_hash(stream);
+        let longer = stream.absorb(&buf[..n]);
+        stream = longer;
+        if !source.more() {
+            print(source, h, stream);
             return;
         }
     }
 }
 
-// The three lines of a file.
-fn print_hash(s: Stream)
-    requires { ⌜ s .n ≤ limit ⌝ }
+// Prints the lines of a file. The requires: the stream took all that the input gave after the key, up to its end.
+fn print(input: Input, h: Block, s: Stream)
+    requires { ⌜ ReadWhole input h s ⌝ }
 {
-    let n = s.n;
-    let hash = s.finish();
-    io::write_all(STDOUT_FILENO, b"bytes ");
-    io::print_decimal(STDOUT_FILENO, n);
-    io::write_all(STDOUT_FILENO, b"\nblocks ");
-    io::print_decimal(STDOUT_FILENO, blocks(n));
-    io::write_all(STDOUT_FILENO, b"\nghash ");
-    io::print_hex(STDOUT_FILENO, hash.hi, 16);
-    io::print_hex(STDOUT_FILENO, hash.lo, 16);
-    io::write_all(STDOUT_FILENO, b"\n");
+    let mut out = [0u8; LINES_BYTES];
+    let k = lines(s.n, s.finish(), &mut out);
+    say(&out[..k]);
+}
+
+// Writes to standard output, by one call where that takes all of the text. Where the text can't be written, the line at which it stopped has
+// no end.
+fn say(text: &[u8]) {
+    if !io::write_all(STDOUT_FILENO, text) {
+        complain(b"hash: standard output cannot be written\n");
+    }
+}
+
+// Refuses a file of more than 2^61 - 1 bytes.
+fn too_long() {
+    say(b"refused 2\n");
 }
 
 // A failed read is told apart from the end of the input, and no hash is printed.
-fn complain() {
-    io::write_all(STDERR_FILENO, b"hash: standard input cannot be read\n");
+fn unreadable() {
+    complain(b"hash: standard input cannot be read\n");
+}
+
+// Tells on standard error why nothing is printed, or not all.
+fn complain(text: &[u8]) {
+    io::write_all(STDERR_FILENO, text);
 }

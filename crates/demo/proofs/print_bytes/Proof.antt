@@ -1,4 +1,4 @@
--- `demo::print_bytes` is safe and ends. The loop's invariant: i is at most the length. Assumes nothing.
+-- `demo::print_bytes` is safe and ends. The loop's invariant: i is at most the length.
 use lib.ListN.{length}
 use borrow.Author.Needs.{needs}
 use Prim.Native.Nat.{_-_, _≤_}

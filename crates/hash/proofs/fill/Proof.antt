@@ -1,93 +1,101 @@
--- `hash::fill` meets its contract. The loop's invariant: n bytes were read, within the buffer, which keeps its length. Assumes nothing.
-use mathlib.Core.Path.{_≡_, _∙_}
+-- `hash::fill` meets its contract. The loop's invariant: n bytes were given, within the buffer, which keeps its length, and the input has
+-- counted them.
+use mathlib.Core.Path.{_≡_, sym, _∙_}
+use mathlib.Core.Bool.{true, false, false≢true}
 use mathlib.Core.List.{List}
-use Prim.Native.Nat.{ℕ, _+_, _-_, _≤_}
+use Prim.Native.Nat.{ℕ, _+_, _-_, _≤_, _<_}
 use native.Mathlib.Omega.{arith}
 use borrow.Author.Needs.{needs}
+use borrow.Author.Tests.{ltb-true, not-true, not-false}
 use borrow.Rule.Slice.PartMut.{midOf, putMid, same-len-mid}
 use lib.ListN.{length, length-take, length-drop}
+use Rattle.hash.specs.declared.input.Input.{Input}
 use Rattle.hash.proofs.fill.Statement.{statement}
 use Rattle.hash.proofs.fill.Tie as tie
 
--- what a part of the buffer from n on was given is within the buffer, which keeps its length
-part-read :
-    (n : ℕ) (xs ys : List ℕ) (m : ℕ) → n ≤ length xs → length ys ≡ length (midOf n (length xs - n) xs) → m ≤ length ys
-    → (n + m ≤ length (putMid n (length xs - n) xs ys)) × (length (putMid n (length xs - n) xs ys) ≡ length xs)
-part-read n xs ys m h e l =
-    let s : length (putMid n (length xs - n) xs ys) ≡ length xs = same-len-mid n (length xs - n) xs ys e in
-    let k : length ys ≤ length xs - n = omega (arith, simp (length-take, length-drop) at e) in
-    (omega arith, s)
+record Filling (buf₀ buf : List ℕ) (source₀ source : Input) (n : ℕ) : Type 0 where
+  within : n ≤ length buf
+  size : length buf ≡ length buf₀
+  counted : source .n ≡ source₀ .n + n
+
+-- a read into the part of the buffer from n on gives m bytes more
+filling-more : (buf₀ : List ℕ) {buf : List ℕ} (source₀ : Input) {source source′ : Input} {n m : ℕ} (part : List ℕ)
+    → Filling buf₀ buf source₀ source n → length part ≡ length (midOf n (length buf - n) buf) → m ≤ length part → source′ .n ≡ source .n + m
+    → Filling buf₀ (putMid n (length buf - n) buf part) source₀ source′ (n + m)
+filling-more buf₀ {buf} source₀ {n = n} part f e l c =
+    let s : length (putMid n (length buf - n) buf part) ≡ length buf = same-len-mid n (length buf - n) buf part e in
+    let k : length part ≤ length buf - n = omega (arith, simp (length-take, length-drop) at e) in
+    record { within = omega (arith, f .within); size = s ∙ f .size; counted = omega (arith, f .counted) }
 
 abbrev Inv-loop : tie.InvT-loop
-Inv-loop buf₀ n₀ buf n = (n ≤ length buf) × (length buf ≡ length buf₀)
+Inv-loop buf₀ source₀ n₀ buf source n = Filling buf₀ buf source₀ source n
 
 abbrev μ-loop : tie.MeasureT-loop
-μ-loop buf₀ n₀ buf n = length buf₀ - n
+μ-loop buf₀ source₀ n₀ buf source n = length buf₀ - n
 
--- after a read: the bytes read are within the buffer, and it has its first length
-given-part :
-    (r : tie.After-read-some Inv-loop μ-loop)
-    → (r .before .before .before .loop .n + r .read-some .result .n
-    ≤ length
+-- after a read
+given-more :
+    (r : tie.After-read Inv-loop μ-loop)
+    → Filling (r .before .before .before .before .before .args .buf .now)
     (putMid (r .before .before .before .loop .n) (length (r .before .before .before .loop .buf) - r .before .before .before .loop .n)
-    (r .before .before .before .loop .buf) (r .read-some .last .0)))
-    × (length
-    (putMid (r .before .before .before .loop .n) (length (r .before .before .before .loop .buf) - r .before .before .before .loop .n)
-    (r .before .before .before .loop .buf) (r .read-some .last .0))
-    ≡ length (r .before .before .before .before .before .args .buf .now))
-given-part r =
-    let at = r .before .before .before .loop in
-    let p = part-read (at .n) (at .buf) (r .read-some .last .0) (r .read-some .result .n) (at .inv .0) (r .read-some .kept .0) (r .read-some .ensures) in
-    (p .0, p .1 ∙ at .inv .1)
+    (r .before .before .before .loop .buf) (r .read .last .1 .0))
+    (r .before .before .before .before .before .args .input) (r .read .result .input)
+    (r .before .before .before .loop .n + r .read .result .n)
+given-more r =
+    filling-more _ _ (r .read .last .1 .0) (r .before .before .before .loop .inv) (r .read .kept .1 .0) (r .read .ensures .0)
+    (r .read .ensures .1 .1)
 
 loop-holds : tie.Need-loop-holds Inv-loop μ-loop
-loop-holds c = search needs
+loop-holds c = record { within = search needs; size = search needs; counted = omega arith }
 
-sub-read-some : tie.Need-sub-read-some Inv-loop μ-loop
-sub-read-some c = search needs
+sub-read : tie.Need-sub-read Inv-loop μ-loop
+sub-read c = search needs
 
-part-read-some-start : tie.Need-part-read-some-start Inv-loop μ-loop
-part-read-some-start c = search needs
+part-read-start : tie.Need-part-read-start Inv-loop μ-loop
+part-read-start c = search needs
 
-part-read-some-end : tie.Need-part-read-some-end Inv-loop μ-loop
-part-read-some-end c = search needs
+part-read-end : tie.Need-part-read-end Inv-loop μ-loop
+part-read-end c = search needs
 
-read-some-requires : tie.Need-read-some-requires Inv-loop μ-loop
-read-some-requires c κs = search needs
+read-requires : tie.Need-read-requires Inv-loop μ-loop
+read-requires c κs =
+    let f = c .before .before .loop .inv in
+    let at = c .before .before .loop in
+    simp (length-take, length-drop) (omega (arith, f .within, f .size, f .counted))
 
 add-n : tie.Need-add-n Inv-loop μ-loop
-add-n c = let r = c .before .before .before in
-    let p = given-part r in omega (arith, p .0, p .1)
+add-n c =
+    let f = given-more (c .before .before .before .before) in
+    omega (arith, f .within, f .size)
+
+more-requires : tie.Need-more-requires Inv-loop μ-loop
+more-requires c κs = search needs
 
 same-length : tie.Need-same-length Inv-loop μ-loop
-same-length c = let r = c .before .before .before .before in
-    given-part r .1
+same-length c = given-more (c .before .before .before .before .before .before) .size
 
 returns : tie.Need-returns Inv-loop μ-loop
-returns c = let r = c .before .before .before .before in
-    given-part r .0
-
-same-length-2 : tie.Need-same-length-2 Inv-loop μ-loop
-same-length-2 c = let r = c .before .before .before .before .before .before in
-    given-part r .1
-
-returns-2 : tie.Need-returns-2 Inv-loop μ-loop
-returns-2 c = let r = c .before .before .before .before .before .before in
-    given-part r .0
+returns c =
+    let f = given-more (c .before .before .before .before .before .before) in
+    (f .within, (λ m. absurd (false≢true (sym (not-true _ (c .if1 .taken)) ∙ c .before .more .ensures ∙ m)), f .counted))
 
 loop-less : tie.Need-loop-less Inv-loop μ-loop
-loop-less c = let r = c .before .before .before .before .before .before in
-    let p = given-part r in omega (arith, p .0, p .1)
+loop-less c =
+    let r = c .before .before .before .before .before .before in
+    let f = given-more r in
+    let some : 0 < r .read .result .n = ltb-true 0 _ (sym (r .read .ensures .1 .0) ∙ sym (c .before .more .ensures) ∙ not-false _ (c .if1 .left)) in
+    omega (arith, f .within, f .size)
 
 loop-again : tie.Need-loop-again Inv-loop μ-loop
-loop-again c = let r = c .before .before .before .before .before .before in
-    given-part r
+loop-again c = given-more (c .before .before .before .before .before .before)
 
-same-length-3 : tie.Need-same-length-3 Inv-loop μ-loop
-same-length-3 c = search needs
+same-length-2 : tie.Need-same-length-2 Inv-loop μ-loop
+same-length-2 c = search needs
 
-returns-3 : tie.Need-returns-3 Inv-loop μ-loop
-returns-3 c = search needs
+returns-2 : tie.Need-returns-2 Inv-loop μ-loop
+returns-2 c =
+    let f = c .before .loop .inv in
+    (f .within, (λ m. omega (arith, f .within), f .counted))
 
 pub fill-spec : {M : Type 1} → statement M
 fill-spec =
@@ -96,16 +104,15 @@ fill-spec =
     Inv-loop
     μ-loop
     loop-holds
-    sub-read-some
-    part-read-some-start
-    part-read-some-end
-    read-some-requires
+    sub-read
+    part-read-start
+    part-read-end
+    read-requires
     add-n
+    more-requires
     same-length
     returns
-    same-length-2
-    returns-2
     loop-less
     loop-again
-    same-length-3
-    returns-3)
+    same-length-2
+    returns-2)
