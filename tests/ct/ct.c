@@ -1,6 +1,8 @@
 /* Constant time, observed: the library's calls on secrets that valgrind's memcheck takes to be undefined. Memcheck follows undefined bits
- * through every instruction and reports a conditional jump, a conditional move or an address that depends on one. So a run with no
- * report is one in which neither the path taken nor the places read and written depended on a secret.
+ * through every instruction and reports a conditional jump or an address that depends on one. So a run with no report is one in which
+ * neither the path taken nor the places read and written depended on a secret. A conditional move is not reported, whatever the words of
+ * memcheck's message say (ct move shows it): it chooses between two values that are both at hand, takes the same time for either, and what
+ * it chose is followed on as undefined.
  *
  * Secret: keys, H, I, S, blocks, and the bytes of files. Public: lengths, places, arm and seal numbers, nonces, slips, and every answer,
  * count and verdict. Answers and counts must come out defined by themselves. A tag is published by the seal that makes it, and is
@@ -12,10 +14,11 @@
  *
  * Each call is made on plain data too, and must give the same bytes.
  *
- * ct field    multiply, GHASH and the five edits, which use no cipher
+ * ct field    multiply, GHASH, a state's fields and the five edits, which use no cipher
  * ct cipher   encrypt, GMAC, start, read and seal
  * ct check    check
  * ct branch, ct index    deliberate faults, which must be reported
+ * ct move     a conditional move, which is no fault
  */
 #include "armfile.h"
 #include <stdio.h>
@@ -25,9 +28,8 @@
 
 #define STATE ARMFILE_STATE_BYTES
 #define SECRET_STATE 64 /* key, H, I and S; n, arm and last used number follow */
-#define SLIP 36
+#define SLIP ARMFILE_SLIP_BYTES
 #define SLIP_HEAD 20 /* version, length, arm and number; the tag follows */
-#define LIMIT ((UINT64_C(1) << 61) - 1)
 #define MOST 100
 
 static const size_t lengths[] = {0, 1, 15, 16, 17, 32, 33, 64, MOST};
@@ -178,7 +180,7 @@ static void one_edit(int kind, uint64_t n, uint64_t p, size_t l) {
 
 /* Accepted and refused edits, of short files, of a long one and of one past the limit. */
 static void on_edits(void) {
-    const uint64_t files[] = {0, 40, 64, 1000, LIMIT - 20, LIMIT + 1};
+    const uint64_t files[] = {0, 40, 64, 1000, ARMFILE_MAX_BYTES - 20, ARMFILE_MAX_BYTES + 1};
     for (size_t f = 0; f < sizeof files / sizeof files[0]; f++)
         for (size_t i = 0; i < LENGTHS; i++) {
             for (int kind = 1; kind < 5; kind++)
@@ -228,12 +230,22 @@ static void on_start_and_read(void) {
         reveal(state, STATE);
         must_be_same(state, plain, STATE, "another state");
         answered(armfile_start(key, 15, 7, 41, 0, state), 1);
-        answered(armfile_start(key, 16, 7, 41, LIMIT + 1, state), 2);
+        answered(armfile_start(key, 16, 7, 41, ARMFILE_MAX_BYTES + 1, state), 2);
     }
 }
 
+/* What a state says of itself is public, whatever the rest of it is. */
+static void on_fields(void) {
+    uint8_t state[STATE];
+    any_state(state, 40);
+    hide(state, SECRET_STATE);
+    answered(armfile_length(state), 40);
+    answered(armfile_arm(state), 7);
+    answered(armfile_last(state), 41);
+}
+
 static void on_seal(void) {
-    const uint64_t files[] = {0, 40, LIMIT};
+    const uint64_t files[] = {0, 40, ARMFILE_MAX_BYTES};
     for (size_t f = 0; f < 3; f++) {
         uint8_t state[STATE], plain[STATE], slip[SLIP], plain_slip[SLIP];
         any_state(state, files[f]);
@@ -305,6 +317,19 @@ static void fault(int index) {
         sink = 1;
 }
 
+/* A conditional move on a secret bit: no report, and what it chose is secret. */
+static void move(void) {
+    uint64_t secret, chosen = 1, other = UINT64_MAX - 1;
+    fill((uint8_t *)&secret, sizeof secret);
+    hide(&secret, sizeof secret);
+    unsigned before = VALGRIND_COUNT_ERRORS;
+    __asm__("test %1, %1\n\tcmovs %2, %0" : "+r"(chosen) : "r"(secret), "r"(other) : "cc");
+    calls++;
+    if (VALGRIND_COUNT_ERRORS != before)
+        fail("a conditional move is reported");
+    must_be_secret(&chosen, sizeof chosen, "what a conditional move chose is taken to be public");
+}
+
 int main(int argc, char **argv) {
     if (!RUNNING_ON_VALGRIND)
         fail("not run by valgrind");
@@ -312,6 +337,7 @@ int main(int argc, char **argv) {
     if (strcmp(part, "field") == 0) {
         on_blocks(armfile_multiply);
         on_ghash();
+        on_fields();
         on_edits();
     } else if (strcmp(part, "cipher") == 0) {
         on_blocks(armfile_encrypt);
@@ -324,8 +350,10 @@ int main(int argc, char **argv) {
         fault(0);
     } else if (strcmp(part, "index") == 0) {
         fault(1);
+    } else if (strcmp(part, "move") == 0) {
+        move();
     } else {
-        fail("ct field, cipher, check, branch or index");
+        fail("ct field, cipher, check, branch, index or move");
     }
     printf("ct %s: %u calls\n", part, calls);
     return 0;

@@ -39,6 +39,9 @@ CALL(ghash, armfile_ghash(key, 16, file, n, file, n, out, 16))
 CALL(gmac, armfile_gmac(key, 16, file, 12 + n, file, n, out, 16))
 CALL(start, armfile_start(key, 16, 7, 0, n, state))
 CALL(read_file, armfile_read(key, 16, 7, 0, file, n, state))
+CALL(length, armfile_length(state) != (uint64_t)n << 40)
+CALL(arm, armfile_arm(state) != 7)
+CALL(last, armfile_last(state) != 1)
 CALL(change, armfile_change(state, n, file, n, file, n, &count))
 CALL(append, armfile_append(state, file, n, &count))
 CALL(prepend, armfile_prepend(state, file, WHOLE(n), &count))
@@ -52,7 +55,7 @@ static const struct {
 	uint64_t (*call)(size_t);
 } calls[] = {
 	{ "encrypt", encrypt }, { "multiply", multiply }, { "ghash", ghash }, { "gmac", gmac }, { "start", start },
-	{ "read", read_file }, { "change", change }, { "append", append }, { "prepend", prepend },
+	{ "read", read_file }, { "length", length }, { "arm", arm }, { "last", last }, { "change", change }, { "append", append }, { "prepend", prepend },
 	{ "drop_front", drop_front }, { "cut_tail", cut_tail }, { "seal", seal }, { "check", check },
 };
 static const size_t shorter[] = { 0, 1, 17, 100 };
@@ -74,7 +77,7 @@ static size_t on_paint(const char *name, uint64_t (*volatile call)(size_t), size
 	for (i = 0; low + i < end; i++)
 		stack[i] = paint;
 	if (call(n) != 0)
-		stop(name, "is refused");
+		stop(name, "is refused, or reads another field than was put there");
 	if (caller > end)
 		stop(name, "was not called from painted stack");
 	for (i = 0; low + i < caller && stack[i] == paint; i++)

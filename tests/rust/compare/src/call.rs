@@ -40,6 +40,9 @@ macro_rules! made {
     }};
 }
 
+/// How many bytes of an input the report of a failing case shows.
+const SHOWN: usize = 1_100;
+
 /// A call and its arguments, but for what it is lent for writing.
 #[derive(Clone)]
 pub enum Call {
@@ -191,7 +194,7 @@ impl Call {
             Call::DropFront { .. } => ffi::drop_front(lent, input(0), count),
             Call::CutTail { .. } => ffi::cut_tail(lent, input(0), count),
             Call::Seal => ffi::seal(lent, out.bytes_mut()),
-            Call::Check { .. } => ffi::check(lent, input(0), &mut verdict.bytes_mut()[0]),
+            Call::Check { .. } => ffi::check(&*lent, input(0), &mut verdict.bytes_mut()[0]),
         };
 
         for (guarded, (_, bytes)) in lent_inputs.iter_mut().zip(&inputs) {
@@ -241,7 +244,9 @@ impl fmt::Display for Call {
             write!(f, ", {name} = {number}")?;
         }
         for (name, bytes) in inputs {
-            write!(f, ", {name} = {} ({} bytes)", hex(bytes), bytes.len())?;
+            let (shown, more) = bytes.split_at(bytes.len().min(SHOWN));
+            let rest = if more.is_empty() { "" } else { ".." };
+            write!(f, ", {name} = {}{rest} ({} bytes)", hex(shown), bytes.len())?;
         }
         Ok(())
     }

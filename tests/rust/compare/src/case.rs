@@ -74,10 +74,22 @@ impl Case {
         if (answer, &after) != (expected.0, &expected.1) {
             panic!("the wrapper answers {answer}, {after}, unlike the library");
         }
+        fields_are_read(&after);
         self.tally.0[answer as usize] += 1;
         *lent = after;
         answer
     }
+}
+
+/// Holds the calls that read a state's fields to the fields themselves. They
+/// refuse no state, so any that a call has left will do.
+fn fields_are_read(lent: &Lent) {
+    let held = armfile::State::from_bytes(lent.state);
+    let read = (held.length(), held.arm(), held.last());
+    let fields = lent.fields();
+    let expected = (fields.n, fields.arm, fields.last);
+    assert_eq!(read, expected, "length, arm and last used number");
+    assert_eq!(held.as_bytes(), &lent.state, "the state that was only read");
 }
 
 /// Reports the case where a panic ends it.

@@ -5,8 +5,9 @@
 //! - `guarded`: lent buffers with canaries around them.
 //! - `case`: seeds, counts and the report of a failing case.
 //!
-//! The inputs are chosen in `tests/compare`; `tests/vectors.rs` puts the
-//! published vectors through the library.
+//! The inputs are chosen in `tests/compare`. `tests/vectors.rs` puts the
+//! published vectors through the library, `tests/claimed.rs` lengths that only
+//! C can claim, and `tests/counts.rs` inputs too long for `reference`.
 
 #![forbid(unsafe_code)]
 

@@ -1,23 +1,34 @@
 //! Document 01, "The hash program".
 
-use std::io::{ErrorKind, Write};
+use std::io::{ErrorKind, Read, Write};
+use std::os::fd::{AsRawFd, OwnedFd};
+use std::os::unix::net::UnixStream;
+use std::os::unix::process::CommandExt;
 use std::process::{Child, ChildStdin, Command, Output, Stdio};
 use std::thread::sleep;
 use std::time::Duration;
 
-use reference::ghash::ghash;
+use reference::field::{add, multiply, power};
+use reference::ghash::{block_count, ghash, pair_block};
 use reference::random::Random;
+
+/// The program, to be started with its outputs in pipes.
+fn program() -> Command {
+    let path = std::env::var_os("HASH_PROGRAM")
+        .expect("set HASH_PROGRAM to the path of the built hash program");
+    let mut command = Command::new(path);
+    command.stdout(Stdio::piped()).stderr(Stdio::piped());
+    command
+}
+
+fn started(command: &mut Command) -> Child {
+    let begun = command.spawn();
+    begun.unwrap_or_else(|e| panic!("HASH_PROGRAM {command:?} does not start: {e}"))
+}
 
 /// The program, started with the given standard input.
 fn spawn(input: Stdio) -> Child {
-    let path = std::env::var_os("HASH_PROGRAM")
-        .expect("set HASH_PROGRAM to the path of the built hash program");
-    Command::new(&path)
-        .stdin(input)
-        .stdout(Stdio::piped())
-        .stderr(Stdio::piped())
-        .spawn()
-        .unwrap_or_else(|e| panic!("HASH_PROGRAM {path:?} does not start: {e}"))
+    started(program().stdin(input))
 }
 
 /// Writes pieces to the program's pipe, pausing after each. A program that
@@ -92,6 +103,18 @@ fn example_of_document_01() {
     let expected = "bytes 1\nblocks 1\nghash 01000000000000080000000000000000\n";
     assert_eq!(printed_for(&input), expected);
     assert_eq!(expected_for(&input), expected);
+}
+
+/// What the toolchain's own check holds the program to is what the second
+/// implementation says.
+#[test]
+fn the_stored_run() {
+    let input = include_bytes!("../../../../crates/hash/stdin");
+    assert_eq!(
+        expected_for(input),
+        include_str!("../../../../crates/hash/stdout")
+    );
+    assert_eq!(printed_for(input), expected_for(input));
 }
 
 #[test]
@@ -217,6 +240,34 @@ fn a_file_longer_than_any_buffer() {
     compare_on_sizes(4, [16 + (5 << 20) + 3]);
 }
 
+/// More bytes than 24 bits count.
+#[test]
+fn a_file_of_more_than_2_24_bytes() {
+    compare_on_sizes(8, [16 + (1 << 24) + 21]);
+}
+
+/// More bytes than 32 bits count, all zero but for the first and the last
+/// block, so that the hash is made of two powers of H. The program takes its
+/// time, some minutes: `tests/mutants/run` runs this, and by hand
+/// `cargo test -p programs --test hash -- --ignored`.
+#[test]
+#[ignore = "takes minutes"]
+fn a_file_of_more_than_2_32_bytes() {
+    const HOLE: u64 = 1 << 32;
+    let mut random = Random::for_test(9);
+    let [h, first, last] = [random.block(), random.block(), random.block()];
+    let zeros = vec![0; 1 << 20];
+    let mut pieces = vec![&h[..], &first];
+    pieces.extend((0..HOLE >> 20).map(|_| &zeros[..]));
+    pieces.push(&last);
+    let n = HOLE + 32;
+    let weighed = multiply(&first, &power(&h, block_count(n).into()));
+    let sum = add(&weighed, &multiply(&last, &h));
+    let hash = multiply(&add(&sum, &pair_block(8 * n, 0)), &h);
+    let expected = lines(n as usize, &hex(&hash));
+    assert_eq!(printed_for_pieces(&pieces, Duration::ZERO), expected);
+}
+
 /// Cuts the input in random pieces of 1 to `longest` bytes.
 fn cut<'a>(input: &'a [u8], longest: u64, random: &mut Random) -> Vec<&'a [u8]> {
     let mut pieces = Vec::new();
@@ -274,13 +325,154 @@ fn a_file_as_standard_input() {
     assert_eq!(printed(&output), expected_for(&input));
 }
 
+/// Holds a program that could not do its work to saying so, and to printing
+/// nothing that could be taken for an answer.
+fn told_on_standard_error(output: &Output, what: &str) {
+    assert_eq!(printed(output), "", "{what}");
+    let said = String::from_utf8_lossy(&output.stderr);
+    assert!(
+        said.starts_with("hash: ") && said.ends_with('\n'),
+        "{what}: {said:?}"
+    );
+}
+
 /// A directory opens for reading, and then every read of it fails. The
 /// program must not take that for the end of the input.
-#[cfg(unix)]
 #[test]
 fn a_failing_standard_input() {
     let directory = std::fs::File::open(env!("CARGO_MANIFEST_DIR")).expect("a directory");
     let output = spawn(directory.into()).wait_with_output().expect("output");
+    told_on_standard_error(&output, "a directory");
+}
+
+/// A socket whose other end is closed while bytes lie there unread is reset:
+/// what was sent can still be read, and the read after it fails. Sizes around
+/// H and around the program's buffers.
+#[test]
+fn a_read_that_fails_after_some_bytes() {
+    let mut random = Random::for_test(10);
+    for size in [
+        0, 1, 15, 16, 17, 100, 4_096, 65_536, 65_552, 65_553, 100_000,
+    ] {
+        let (mut ours, mut program_s) = UnixStream::pair().expect("sockets");
+        program_s.write_all(b"never read").expect("room");
+        ours.write_all(&random.bytes(size)).expect("room");
+        drop(ours);
+        let input = OwnedFd::from(program_s);
+        let output = spawn(input.into()).wait_with_output().expect("output");
+        told_on_standard_error(&output, &format!("reset after {size} bytes"));
+    }
+}
+
+/// The C library's own, which the standard library links, and Linux's numbers
+/// for x86-64.
+mod system {
+    use std::ffi::c_int;
+
+    extern "C" {
+        pub fn signal(number: c_int, handler: usize) -> usize;
+        pub fn setrlimit(resource: c_int, limits: *const [u64; 2]) -> c_int;
+        pub fn fcntl(file: c_int, command: c_int, ...) -> c_int;
+    }
+
+    pub const SIGPIPE: c_int = 13;
+    pub const SIGXFSZ: c_int = 25;
+    pub const SIG_IGN: usize = 1;
+    pub const RLIMIT_FSIZE: c_int = 1;
+    pub const F_SETFL: c_int = 4;
+    pub const O_NONBLOCK: c_int = 0o4000;
+    pub const F_SETPIPE_SZ: c_int = 1031;
+}
+
+/// Runs the program on each input that it answers in its own way, with this
+/// standard output. Signals are ignored that would end it where a write fails,
+/// and files end at `limit` bytes. It must say that it could not write.
+fn cannot_write(what: &str, limit: u64, output: impl Fn() -> OwnedFd) {
+    for input in [&[7; 5][..], &[7; 33], &[7; 100_000]] {
+        let mut command = program();
+        command.stdin(Stdio::piped()).stdout(output());
+        // SAFETY: these calls are safe between fork and exec.
+        unsafe {
+            command.pre_exec(move || {
+                system::signal(system::SIGPIPE, system::SIG_IGN);
+                system::signal(system::SIGXFSZ, system::SIG_IGN);
+                system::setrlimit(system::RLIMIT_FSIZE, &[limit, limit]);
+                Ok(())
+            });
+        }
+        let mut child = started(&mut command);
+        drop(command); // which holds the output too
+        feed(
+            child.stdin.take().expect("a pipe"),
+            &[input],
+            Duration::ZERO,
+        );
+        let output = child.wait_with_output().expect("the program's output");
+        told_on_standard_error(&output, what);
+    }
+}
+
+#[test]
+fn a_full_device() {
+    cannot_write("a full device", u64::MAX, || {
+        let device = std::fs::File::create("/dev/full");
+        device.expect("/dev/full").into()
+    });
+}
+
+#[test]
+fn a_pipe_that_nobody_reads() {
+    cannot_write("a closed pipe", u64::MAX, || {
+        let (reader, writer) = std::io::pipe().expect("a pipe");
+        drop(reader);
+        writer.into()
+    });
+}
+
+/// A pipe with room for the first word of the answer and not for all of it
+/// takes nothing: the answer is one write, of which no half is ever left.
+#[test]
+fn a_pipe_without_room_for_the_whole() {
+    let (mut reader, mut writer) = std::io::pipe().expect("a pipe");
+    let filler = [b'.'; 4096 - 9];
+    // SAFETY: these calls touch nothing but the pipe.
+    let size = unsafe {
+        system::fcntl(writer.as_raw_fd(), system::F_SETFL, system::O_NONBLOCK);
+        system::fcntl(writer.as_raw_fd(), system::F_SETPIPE_SZ, 4096)
+    };
+    assert_eq!(size, 4096, "a pipe of one page");
+    writer.write_all(&filler).expect("room");
+    cannot_write("a pipe without room", u64::MAX, || {
+        writer.try_clone().expect("the pipe").into()
+    });
+    drop(writer);
+    let mut left = Vec::new();
+    reader.read_to_end(&mut left).expect("the filler");
+    assert_eq!(left.len(), filler.len(), "part of an answer is left");
+}
+
+/// A file that may grow to nine bytes takes the answer's first nine. What is
+/// there cannot be taken back, but the program says that it is not all.
+#[test]
+fn a_short_write() {
+    let path = std::env::temp_dir().join(format!("armfile-hash-{}", std::process::id()));
+    cannot_write("a short write", 9, || {
+        std::fs::File::create(&path).expect("a file").into()
+    });
+    let left = std::fs::read(&path).expect("the file");
+    std::fs::remove_file(&path).expect("the file");
+    assert_eq!(left, b"bytes 999");
+}
+
+/// An argument is no input: the program says how it is used, and reads nothing.
+#[test]
+fn an_argument() {
+    let output = program().arg("FILE").stdin(Stdio::piped()).output();
+    let output = output.expect("output");
     assert_eq!(printed(&output), "");
-    assert!(!output.stderr.is_empty(), "nothing on standard error");
+    let said = String::from_utf8_lossy(&output.stderr);
+    assert!(
+        said.starts_with("usage: hash") && said.ends_with('\n'),
+        "{said:?}"
+    );
 }

@@ -178,25 +178,4 @@ mod tests {
         assert_eq!(words[4], [0xa0, 0xfa, 0xfe, 0x17]);
         assert_eq!(words[43], [0xb6, 0x63, 0x0c, 0xa6]);
     }
-
-    /// FIPS 197, appendices B and C.1.
-    #[test]
-    fn examples_of_appendices_b_and_c() {
-        let cases: [[u128; 3]; 2] = [
-            [
-                0x2b7e1516_28aed2a6_abf71588_09cf4f3c,
-                0x3243f6a8_885a308d_313198a2_e0370734,
-                0x3925841d_02dc09fb_dc118597_196a0b32,
-            ],
-            [
-                0x00010203_04050607_08090a0b_0c0d0e0f,
-                0x00112233_44556677_8899aabb_ccddeeff,
-                0x69c4e0d8_6a7b0430_d8cdb780_70b4c55a,
-            ],
-        ];
-        for [key, block, expected] in cases {
-            let answer = encrypt(&key.to_be_bytes(), &block.to_be_bytes());
-            assert_eq!(answer, expected.to_be_bytes());
-        }
-    }
 }

@@ -1,5 +1,6 @@
-//! Reads the published NIST vectors for AES-128 and for GCM with a key of 128
-//! bits, which stand beside this crate's source.
+//! Reads the published vectors: those of FIPS 197 and NIST for AES-128, which
+//! are the input of the program crates/cipher_vectors, and NIST's for GCM with
+//! a key of 128 bits, which stand beside this crate's source.
 
 use std::collections::HashMap;
 
@@ -51,8 +52,8 @@ impl Record {
 /// Encrypts every block of the AES-128 vectors, compares it with the published
 /// one, and says how many there were.
 pub fn aes_128_blocks(encrypt: impl Fn(&[u8; 16], &[u8; 16]) -> [u8; 16]) -> usize {
-    let records = records("aes-128.rsp");
-    assert_eq!(records.len(), 148);
+    let records = records("../../../crates/cipher_vectors/stdin");
+    assert_eq!(records.len(), 150);
     let mut blocks = 0;
     for record in &records {
         let plain = record.bytes("plaintext");
@@ -68,14 +69,17 @@ pub fn aes_128_blocks(encrypt: impl Fn(&[u8; 16], &[u8; 16]) -> [u8; 16]) -> usi
     blocks
 }
 
-/// The records of a file in the directory of vectors.
+/// The records of a file, by its path from this crate's directory. An empty
+/// line ends a record.
 pub fn records(file: &str) -> Vec<Record> {
     let path = format!("{}/{file}", env!("CARGO_MANIFEST_DIR"));
     let text = std::fs::read_to_string(&path).unwrap_or_else(|e| panic!("{path}: {e}"));
     let mut settings = HashMap::new();
     let mut found: Vec<Record> = Vec::new();
+    let mut within = false;
     for line in text.lines().map(str::trim) {
         if line.is_empty() || line.starts_with('#') {
+            within = false;
             continue;
         }
         if let Some(setting) = line.strip_prefix('[') {
@@ -84,11 +88,12 @@ pub fn records(file: &str) -> Vec<Record> {
             found.last_mut().expect("a record").fails = true;
         } else {
             let (name, value) = split(line);
-            if name == "count" {
+            if !within {
                 found.push(Record {
                     values: settings.clone(),
                     fails: false,
                 });
+                within = true;
             }
             let record = found.last_mut().expect("a record");
             record.values.insert(name, value);

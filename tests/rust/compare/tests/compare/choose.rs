@@ -8,6 +8,11 @@ pub const LENGTHS: [usize; 23] = [
     0, 1, 2, 11, 12, 13, 15, 16, 17, 31, 32, 33, 47, 48, 49, 63, 64, 65, 128, 255, 256, 257, 1025,
 ];
 
+/// Byte lengths around those of pages and of usual buffers, and far past them.
+pub const LONG: [usize; 9] = [
+    2_000, 2_001, 4_096, 4_097, 10_000, 65_536, 65_537, 100_003, 300_007,
+];
+
 /// Sizes of a lent buffer, around that of a block, of a longer key and of a
 /// slip.
 pub const SIZES: [usize; 13] = [0, 1, 2, 8, 15, 16, 17, 24, 31, 32, 33, 36, 64];

@@ -7,6 +7,7 @@ mod blocks;
 mod choose;
 mod edits;
 mod lists;
+mod long;
 mod slips;
 mod states;
 
@@ -36,6 +37,8 @@ const PARTS: &[Part] = &[
     ("slips of wrong lengths", 85, slips::wrong_lengths),
     ("slips made by hand", 300, slips::made_by_hand),
     ("the last numbers", 50, slips::last_numbers),
+    ("long inputs", 9, long::inputs),
+    ("a file of 3 MiB", 1, long::file),
 ];
 
 fn main() {

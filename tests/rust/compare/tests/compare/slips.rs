@@ -1,10 +1,10 @@
 //! Seal and check.
 
-use armfile::SLIP_BYTES;
+use armfile::{MAX_BYTES, SLIP_BYTES};
 use compare::{Call, Case, Lent};
-use reference::{slip, Machine, Slip};
+use reference::{slip, Machine, Slip, State};
 
-use crate::choose::{output, NUMBERS};
+use crate::choose::{one_of, output, NUMBERS};
 
 /// A sealed random file: the state afterwards, its slip, and the machine.
 fn sealed(case: &mut Case) -> (Lent, Vec<u8>, Machine) {
@@ -57,7 +57,8 @@ pub fn one_bit_turned(case: &mut Case) {
     expect(case, &lent, &slip, Ok(true));
 }
 
-/// Slips of as many bytes as the case's index: seal and check refuse 7.
+/// Slips of as many bytes as the case's index: seal and check refuse 7. Where
+/// the state's length passes the limit they refuse 2, whatever the slip is.
 pub fn wrong_lengths(case: &mut Case) {
     let (mut lent, slip, _) = sealed(case);
     let size = case.index() as usize;
@@ -68,15 +69,25 @@ pub fn wrong_lengths(case: &mut Case) {
     let other = vec![0; size];
     expect(case, &lent, &other, Err(if expected == 0 { 8 } else { 7 }));
     lent.out = output(&mut case.random, size);
+    let mut past = lent.clone();
     assert_eq!(case.call(&Call::Seal, &mut lent), expected);
+    let n = MAX_BYTES + 1 + case.random.below(100);
+    past.state = State { n, ..past.fields() }.state_bytes();
+    expect(case, &past, &cut_or_longer, Err(2));
+    expect(case, &past, &other, Err(2));
+    assert_eq!(case.call(&Call::Seal, &mut past), 2);
 }
 
-/// Slips well made: only the length, the arm and the tag decide, and a number
-/// that no seal has used yet is no hindrance.
+/// Slips well made: only the length, the arm and the tag decide. A number
+/// that no seal has used yet is no hindrance, nor is one that none can use, 0.
 pub fn made_by_hand(case: &mut Case) {
     let (lent, _, machine) = sealed(case);
     let random = &mut case.random;
-    let number = random.number();
+    let number = if random.once_in(2) {
+        one_of(random, &NUMBERS)
+    } else {
+        random.number()
+    };
     let arm = machine.arm ^ u32::from(random.once_in(3));
     let length = machine.n() ^ (u64::from(random.once_in(3)) << random.below(61));
     let mut made = Slip {

@@ -1,13 +1,14 @@
 //! The library's functions one for one, in the order and with the parameters
 //! of armfile.h, as safe functions: a slice stands for a pointer and a length,
 //! and the answer is the refusal number, or 0 for work done. A refused call
-//! leaves every lent buffer as it was.
+//! leaves every lent buffer as it was. The three that read a field of a state
+//! refuse none, and answer the field.
 //!
-//! This module holds all the unsafe code of the wrapper. Each call is sound
-//! for the same reason: every pointer comes from a reference that lives
-//! through the call, with the length of what it refers to, so it is valid for
-//! that many bytes and, where it is `*mut`, for writes that nothing else sees.
-//! The library keeps no pointer, holds no data of its own and does not unwind.
+//! Each call is sound for the same reason: every pointer comes from a
+//! reference that lives through the call, with the length of what it refers
+//! to, so it is valid for that many bytes and, where it is `*mut`, for writes
+//! that nothing else sees. The library keeps no pointer, holds no data of its
+//! own and does not unwind.
 
 #![allow(unsafe_code)]
 
@@ -18,8 +19,9 @@ pub const STATE_BYTES: usize = 84;
 /// each most significant byte first.
 pub type StateBytes = [u8; STATE_BYTES];
 
-/// armfile.h.
-mod c {
+/// armfile.h as it is, function for function. What it says that callers must
+/// guarantee holds here too.
+pub mod c {
     extern "C" {
         pub fn armfile_encrypt(
             key: *const u8,
@@ -74,6 +76,9 @@ mod c {
             file_len: usize,
             state: *mut u8,
         ) -> u64;
+        pub fn armfile_length(state: *const u8) -> u64;
+        pub fn armfile_arm(state: *const u8) -> u32;
+        pub fn armfile_last(state: *const u8) -> u64;
         pub fn armfile_change(
             state: *mut u8,
             p: u64,
@@ -109,7 +114,7 @@ mod c {
         ) -> u64;
         pub fn armfile_seal(state: *mut u8, slip: *mut u8, slip_len: usize) -> u64;
         pub fn armfile_check(
-            state: *mut u8,
+            state: *const u8,
             slip: *const u8,
             slip_len: usize,
             verdict: *mut u8,
@@ -130,7 +135,7 @@ fn pointer(bytes: &[u8]) -> *const u8 {
 
 fn pointer_mut(bytes: &mut [u8]) -> *mut u8 {
     if bytes.is_empty() {
-        return std::ptr::from_ref(&NOTHING).cast_mut();
+        return core::ptr::from_ref(&NOTHING).cast_mut();
     }
     bytes.as_mut_ptr()
 }
@@ -221,6 +226,24 @@ pub fn read(key: &[u8], arm: u32, last: u64, file: &[u8], state: &mut StateBytes
     }
 }
 
+/// `armfile_length`: [`crate::State::length`].
+pub fn length(state: &StateBytes) -> u64 {
+    // SAFETY: as said at the module's head.
+    unsafe { c::armfile_length(state.as_ptr()) }
+}
+
+/// `armfile_arm`: [`crate::State::arm`].
+pub fn arm(state: &StateBytes) -> u32 {
+    // SAFETY: as said at the module's head.
+    unsafe { c::armfile_arm(state.as_ptr()) }
+}
+
+/// `armfile_last`: [`crate::State::last`].
+pub fn last(state: &StateBytes) -> u64 {
+    // SAFETY: as said at the module's head.
+    unsafe { c::armfile_last(state.as_ptr()) }
+}
+
 /// `armfile_change`: [`crate::State::change`].
 pub fn change(state: &mut StateBytes, p: u64, old: &[u8], new: &[u8], count: &mut u64) -> u64 {
     // SAFETY: as said at the module's head.
@@ -267,9 +290,8 @@ pub fn seal(state: &mut StateBytes, slip: &mut [u8]) -> u64 {
     unsafe { c::armfile_seal(state.as_mut_ptr(), pointer_mut(slip), slip.len()) }
 }
 
-/// `armfile_check`: [`crate::State::check`]. The state is lent for writing as
-/// everywhere in the interface, and stays as it was.
-pub fn check(state: &mut StateBytes, slip: &[u8], verdict: &mut u8) -> u64 {
+/// `armfile_check`: [`crate::State::check`].
+pub fn check(state: &StateBytes, slip: &[u8], verdict: &mut u8) -> u64 {
     // SAFETY: as said at the module's head.
-    unsafe { c::armfile_check(state.as_mut_ptr(), pointer(slip), slip.len(), verdict) }
+    unsafe { c::armfile_check(state.as_ptr(), pointer(slip), slip.len(), verdict) }
 }

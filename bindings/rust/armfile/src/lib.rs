@@ -28,19 +28,30 @@
 //! library proves what it answers; what this wrapper adds is that lengths are
 //! those of the slices.
 //!
+//! The wrapper needs no allocator and no operating system: it uses `core`
+//! alone, and the library beneath it needs no other.
+//!
 //! The state's layout is provisional until 32-byte keys are supported: don't
 //! carry stored states from one version of the library to another.
 
+#![no_std]
 #![deny(unsafe_code)]
 
-use std::fmt;
+#[cfg(test)]
+extern crate std;
+
+use core::fmt;
 
 pub mod ffi;
+mod wipe;
 
 pub use ffi::{StateBytes, STATE_BYTES};
 
 /// The bytes of a slip.
 pub const SLIP_BYTES: usize = 36;
+
+/// The version in a slip's first three bits. Any other is refused with 8.
+pub const SLIP_FORMAT: u8 = 1;
 
 /// The bytes of a key, of the hash key, of a block and of a tag.
 pub const BLOCK_BYTES: usize = 16;
@@ -114,7 +125,7 @@ impl fmt::Display for Refusal {
     }
 }
 
-impl std::error::Error for Refusal {}
+impl core::error::Error for Refusal {}
 
 /// AES-128 of a block under a key, FIPS 197, written to `out`. All three are
 /// 16 bytes. Refusals, in this order: 1, 7.
@@ -150,6 +161,9 @@ pub fn gmac(key: &[u8], nonce: &[u8], a: &[u8], out: &mut [u8]) -> Result<(), Re
 /// and a repeated number gives the hash key away. For the same reason a state
 /// brought back by [`State::from_bytes`] must be the last one stored.
 ///
+/// A state holds the key. It is wiped when it is dropped; a copy that a move
+/// left behind is not, so make it where it is to stay and lend it from there.
+///
 /// A state may hold any bytes. If its length passes 2^61 - 1, every call of
 /// it is refused with 2 before all else; the refusals named at each call come
 /// after that one.
@@ -162,20 +176,21 @@ impl State {
     /// with `last` the last used seal number: 0 for a new arm and key.
     /// Refusals, in this order: 1, 2.
     pub fn start(key: &[u8], arm: u32, last: u64, n: u64) -> Result<State, Refusal> {
-        let mut bytes = [0; STATE_BYTES];
-        Refusal::of(ffi::start(key, arm, last, n, &mut bytes))?;
-        Ok(State { bytes })
+        let mut state = State::from_bytes([0; STATE_BYTES]);
+        Refusal::of(ffi::start(key, arm, last, n, &mut state.bytes))?;
+        Ok(state)
     }
 
     /// The state of a lent file, which is read once and not kept. Refusals,
     /// in this order: 1, 2.
     pub fn read(key: &[u8], arm: u32, last: u64, file: &[u8]) -> Result<State, Refusal> {
-        let mut bytes = [0; STATE_BYTES];
-        Refusal::of(ffi::read(key, arm, last, file, &mut bytes))?;
-        Ok(State { bytes })
+        let mut state = State::from_bytes([0; STATE_BYTES]);
+        Refusal::of(ffi::read(key, arm, last, file, &mut state.bytes))?;
+        Ok(state)
     }
 
-    /// A state stored earlier by [`State::as_bytes`].
+    /// A state stored earlier by [`State::as_bytes`]. The caller's own copy of
+    /// the bytes is the caller's to wipe.
     pub fn from_bytes(bytes: StateBytes) -> State {
         State { bytes }
     }
@@ -185,19 +200,20 @@ impl State {
         &self.bytes
     }
 
-    /// The byte length of the file.
+    /// The byte length of the file. No state is refused this, nor the two that
+    /// follow.
     pub fn length(&self) -> u64 {
-        u64::from_be_bytes(self.part(64))
+        ffi::length(&self.bytes)
     }
 
     /// The arm number.
     pub fn arm(&self) -> u32 {
-        u32::from_be_bytes(self.part(72))
+        ffi::arm(&self.bytes)
     }
 
     /// The last used seal number.
-    pub fn last_used(&self) -> u64 {
-        u64::from_be_bytes(self.part(76))
+    pub fn last(&self) -> u64 {
+        ffi::last(&self.bytes)
     }
 
     /// The bytes from `p` on, until now `old`, become `new`. `old` must be
@@ -254,14 +270,16 @@ impl State {
     /// Whether a slip is genuine: its length and arm are the state's, and its
     /// tag is the file's under its own number. Refusals, in this order: 7, 8.
     pub fn check(&self, slip: &[u8]) -> Result<bool, Refusal> {
-        let mut lent = self.bytes;
         let mut verdict = 0;
-        Refusal::of(ffi::check(&mut lent, slip, &mut verdict))?;
+        Refusal::of(ffi::check(&self.bytes, slip, &mut verdict))?;
         Ok(verdict == 1)
     }
+}
 
-    fn part<const L: usize>(&self, first: usize) -> [u8; L] {
-        std::array::from_fn(|i| self.bytes[first + i])
+/// The key is in the state, so nothing of it is left.
+impl Drop for State {
+    fn drop(&mut self) {
+        wipe::wipe(&mut self.bytes);
     }
 }
 
@@ -271,13 +289,17 @@ impl fmt::Debug for State {
         f.debug_struct("State")
             .field("length", &self.length())
             .field("arm", &self.arm())
-            .field("last_used", &self.last_used())
+            .field("last", &self.last())
             .finish_non_exhaustive()
     }
 }
 
 #[cfg(test)]
 mod tests {
+    use core::mem::MaybeUninit;
+    use std::format;
+    use std::string::ToString;
+
     use super::*;
 
     #[test]
@@ -315,7 +337,23 @@ mod tests {
     fn public_fields_are_shown_and_secret_ones_are_not() {
         let state = State::start(&[0x77; 16], 5, 6, 40).unwrap();
         let shown = format!("{state:?}");
-        assert_eq!(shown, "State { length: 40, arm: 5, last_used: 6, .. }");
+        assert_eq!(shown, "State { length: 40, arm: 5, last: 6, .. }");
+    }
+
+    /// What is dropped in place can still be looked at.
+    #[test]
+    #[allow(unsafe_code)]
+    fn a_dropped_state_is_wiped() {
+        let state = State::read(&[0x77; 16], 5, 6, b"MOVE").unwrap();
+        let mut place = MaybeUninit::new(state);
+        // SAFETY: the state is there and is dropped once; a State is its
+        // bytes, and they are still initialised after the drop.
+        let left = unsafe {
+            assert!(place.assume_init_ref().as_bytes()[..64].contains(&0x77));
+            place.assume_init_drop();
+            place.as_ptr().cast::<StateBytes>().read_volatile()
+        };
+        assert_eq!(left, [0; STATE_BYTES]);
     }
 
     #[test]

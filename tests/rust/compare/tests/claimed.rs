@@ -1,0 +1,363 @@
+//! Lengths that C can claim and no slice in Rust has. A refusal of such a
+//! length comes before any of its bytes is touched: they stand on a page that
+//! may be neither read nor written, and a call that touches it ends by a
+//! signal, which is seen from a process of its own. A length that is not too
+//! long is not refused: the call goes on to its bytes.
+
+#![cfg(target_os = "linux")]
+
+use std::sync::OnceLock;
+
+use armfile::ffi::c;
+use armfile::{MAX_BYTES, SLIP_BYTES};
+use reference::calls::{block_refusal, ghash_refusal, gmac_refusal};
+use reference::refusal::{
+    refuse, too_long, whole_sum, BAD_BUFFER, NOT_SIXTEEN, NOT_WHOLE, OUTSIDE, TOO_LONG, UNEQUAL,
+    USED_UP,
+};
+use reference::State;
+
+/// Lengths of inputs: true ones, up to `TRUE`, and claimed ones. The header
+/// asks for less than 2^63.
+const LENGTHS: [usize; 10] = [
+    0,
+    20,
+    (1 << 32) + 16,
+    LIMIT - 15,
+    LIMIT,
+    LIMIT + 1,
+    LIMIT + 2,
+    LIMIT + 17,
+    1 << 62,
+    (1 << 63) - 1,
+];
+const LIMIT: usize = MAX_BYTES as usize;
+
+/// Lengths of keys and blocks, and of outputs: 16 in their lowest bits among
+/// them.
+const SIZES: [usize; 5] = [15, 16, 17, (1 << 32) + 16, (1 << 61) + 16];
+
+/// Lengths of a file.
+const FILES: [u64; 9] = [
+    0,
+    1,
+    40,
+    1 << 32,
+    MAX_BYTES - 16,
+    MAX_BYTES - 1,
+    MAX_BYTES,
+    MAX_BYTES + 1,
+    u64::MAX,
+];
+
+/// The longest length for which there are bytes.
+const TRUE: usize = 64;
+static BYTES: [u8; TRUE] = [0x5e; TRUE];
+
+/// The C library's own, which the standard library links.
+mod system {
+    use std::ffi::{c_int, c_void};
+
+    extern "C" {
+        pub fn mmap(
+            place: *mut c_void,
+            length: usize,
+            protection: c_int,
+            flags: c_int,
+            file: c_int,
+            offset: i64,
+        ) -> *mut c_void;
+        pub fn fork() -> c_int;
+        pub fn waitpid(process: c_int, status: *mut c_int, options: c_int) -> c_int;
+        pub fn _exit(status: c_int) -> !;
+    }
+
+    pub const PROT_NONE: c_int = 0;
+    pub const MAP_PRIVATE_ANONYMOUS: c_int = 0x22;
+    pub const SIGSEGV: c_int = 11;
+}
+
+/// A page that may be neither read nor written.
+fn forbidden() -> *mut u8 {
+    static PAGE: OnceLock<usize> = OnceLock::new();
+    let page = PAGE.get_or_init(|| {
+        let flags = system::MAP_PRIVATE_ANONYMOUS;
+        // SAFETY: a new mapping takes nothing away.
+        let page =
+            unsafe { system::mmap(std::ptr::null_mut(), 4096, system::PROT_NONE, flags, -1, 0) };
+        assert_ne!(page as isize, -1, "no page");
+        page as usize
+    });
+    *page as *mut u8
+}
+
+/// An input of a length.
+fn input(length: usize) -> *const u8 {
+    if length <= TRUE {
+        return BYTES.as_ptr();
+    }
+    forbidden()
+}
+
+/// What a call is lent for writing.
+#[derive(Clone, PartialEq, Debug)]
+struct Lent {
+    state: [u8; 84],
+    out: [u8; TRUE],
+    count: u64,
+    verdict: u8,
+}
+
+impl Lent {
+    /// A state of n bytes.
+    fn of(n: u64) -> Lent {
+        let state = State {
+            n,
+            last: u64::MAX,
+            ..State::default()
+        };
+        Lent {
+            state: state.state_bytes(),
+            out: [0xee; TRUE],
+            count: 0xeeee,
+            verdict: 0xee,
+        }
+    }
+
+    /// An output of a length.
+    fn out(&mut self, length: usize) -> *mut u8 {
+        if length <= TRUE {
+            return self.out.as_mut_ptr();
+        }
+        forbidden()
+    }
+}
+
+/// Holds a call to what it must answer. One that is refused touches no claimed
+/// byte and alters nothing. One that is accepted, and to which bytes are
+/// `claimed`, goes on to them.
+fn expect(
+    name: &str,
+    expected: Result<(), u64>,
+    claimed: bool,
+    lent: &Lent,
+    mut call: impl FnMut(&mut Lent) -> u64,
+) {
+    let mut after = lent.clone();
+    match expected {
+        Err(number) => {
+            let touched = ends_by_the_page(|| call(&mut after));
+            assert!(!touched, "{name} touches what it must refuse");
+            assert_eq!(call(&mut after), number, "{name}");
+            assert_eq!(&after, lent, "{name}, refused, alters what it is lent");
+        }
+        Ok(()) if claimed => assert!(
+            ends_by_the_page(|| call(&mut after)),
+            "{name} reads nothing"
+        ),
+        Ok(()) => {}
+    }
+}
+
+/// Whether a call touches the page, in a process of its own.
+fn ends_by_the_page(call: impl FnOnce() -> u64) -> bool {
+    let mut status = 0;
+    // SAFETY: the new process makes the call, which allocates nothing and
+    // takes no lock, and ends.
+    unsafe {
+        let process = system::fork();
+        if process == 0 {
+            call();
+            system::_exit(0);
+        }
+        assert_eq!(system::waitpid(process, &mut status, 0), process);
+    }
+    status & 0x7f == system::SIGSEGV
+}
+
+fn wide(length: usize) -> u64 {
+    length as u64
+}
+
+#[test]
+fn the_page_is_forbidden() {
+    // SAFETY: the read is in a process that it ends.
+    assert!(ends_by_the_page(
+        || unsafe { forbidden().read_volatile() }.into()
+    ));
+    assert!(!ends_by_the_page(|| 0));
+}
+
+#[test]
+fn block_calls() {
+    for one in SIZES {
+        for two in SIZES {
+            for size in SIZES {
+                let expected = block_refusal(wide(one), wide(two), wide(size));
+                for (name, function) in [
+                    (
+                        "encrypt",
+                        c::armfile_encrypt as unsafe extern "C" fn(_, _, _, _, _, _) -> _,
+                    ),
+                    ("multiply", c::armfile_multiply),
+                ] {
+                    let name = format!("{name} of {one}, {two} to {size}");
+                    expect(&name, expected, false, &Lent::of(0), |lent| {
+                        let out = lent.out(size);
+                        // SAFETY: what is claimed is on the forbidden page.
+                        unsafe { function(input(one), one, input(two), two, out, size) }
+                    });
+                }
+            }
+        }
+    }
+}
+
+/// GHASH and GMAC: the key, two inputs and the output.
+#[test]
+fn hashes() {
+    for key in SIZES {
+        for one in LENGTHS {
+            for two in LENGTHS {
+                for size in SIZES {
+                    let lengths = (wide(key), wide(one), wide(two), wide(size));
+                    let claimed = one > TRUE || two > TRUE;
+                    let name = format!("ghash of {lengths:?}");
+                    let expected = ghash_refusal(lengths.0, lengths.1, lengths.2, lengths.3);
+                    expect(&name, expected, claimed, &Lent::of(0), |lent| {
+                        let (h, a, b) = (input(key), input(one), input(two));
+                        // SAFETY: what is claimed is on the forbidden page.
+                        unsafe { c::armfile_ghash(h, key, a, one, b, two, lent.out(size), size) }
+                    });
+                    let name = format!("gmac of {lengths:?}");
+                    let expected = gmac_refusal(lengths.0, lengths.1, lengths.2, lengths.3);
+                    expect(&name, expected, claimed, &Lent::of(0), |lent| {
+                        let (k, nonce, a) = (input(key), input(one), input(two));
+                        // SAFETY: what is claimed is on the forbidden page.
+                        unsafe { c::armfile_gmac(k, key, nonce, one, a, two, lent.out(size), size) }
+                    });
+                }
+            }
+        }
+    }
+}
+
+/// Start and read, whose file has the claimed length.
+#[test]
+fn states() {
+    for key in SIZES {
+        for length in LENGTHS {
+            let expected = refuse(&[
+                (key != 16, NOT_SIXTEEN),
+                (too_long(length as u128), TOO_LONG),
+            ]);
+            let name = format!("read of a key of {key}, a file of {length}");
+            expect(&name, expected, length > TRUE, &Lent::of(7), |lent| {
+                let (k, file, state) = (input(key), input(length), lent.state.as_mut_ptr());
+                // SAFETY: what is claimed is on the forbidden page.
+                unsafe { c::armfile_read(k, key, 1, 2, file, length, state) }
+            });
+            if expected.is_err() {
+                let name = format!("start of a key of {key}, {length} bytes");
+                expect(&name, expected, false, &Lent::of(7), |lent| {
+                    let (k, state) = (input(key), lent.state.as_mut_ptr());
+                    // SAFETY: what is claimed is on the forbidden page.
+                    unsafe { c::armfile_start(k, key, 1, 2, wide(length), state) }
+                });
+            }
+        }
+    }
+}
+
+/// The edits that take one run of bytes.
+type Edit = unsafe extern "C" fn(*mut u8, *const u8, usize, *mut u64) -> u64;
+
+/// What may hold, and the numbers of the refusals, in their order.
+type Causes<'a> = &'a [(bool, u64)];
+
+#[test]
+fn edits() {
+    for n in FILES {
+        for l in LENGTHS {
+            let past = (too_long(n.into()), TOO_LONG);
+            let grown = (too_long(whole_sum(n, wide(l))), TOO_LONG);
+            let broken = (!l.is_multiple_of(16), NOT_WHOLE);
+            let outside = (wide(l) > n, OUTSIDE);
+            let edits: [(&str, Edit, Causes); 4] = [
+                ("append", c::armfile_append, &[past, grown]),
+                ("prepend", c::armfile_prepend, &[past, broken, grown]),
+                (
+                    "drop_front",
+                    c::armfile_drop_front,
+                    &[past, broken, outside],
+                ),
+                ("cut_tail", c::armfile_cut_tail, &[past, outside]),
+            ];
+            for (name, function, causes) in edits {
+                let name = format!("{name} of {l} bytes, file of {n}");
+                expect(&name, refuse(causes), l > TRUE, &Lent::of(n), |lent| {
+                    // SAFETY: what is claimed is on the forbidden page.
+                    unsafe { function(lent.state.as_mut_ptr(), input(l), l, &mut lent.count) }
+                });
+            }
+        }
+    }
+}
+
+#[test]
+fn changes() {
+    let lengths = LENGTHS.into_iter().chain([(1 << 32) + 20]);
+    let pairs: Vec<_> = lengths.flat_map(|l| [(l, l), (l, 20), (20, l)]).collect();
+    for n in FILES {
+        for &(old, new) in &pairs {
+            for p in [
+                0,
+                1,
+                n / 2,
+                n,
+                n.wrapping_add(1),
+                1 << 63,
+                u64::MAX - 19,
+                u64::MAX,
+            ] {
+                let expected = refuse(&[
+                    (too_long(n.into()), TOO_LONG),
+                    (old != new, UNEQUAL),
+                    (whole_sum(p, wide(new)) > n.into(), OUTSIDE),
+                ]);
+                let name = format!("change at {p} of {old} bytes to {new}, file of {n}");
+                expect(&name, expected, old > TRUE, &Lent::of(n), |lent| {
+                    let (before, after) = (input(old), input(new));
+                    let (state, count) = (lent.state.as_mut_ptr(), &mut lent.count);
+                    // SAFETY: what is claimed is on the forbidden page.
+                    unsafe { c::armfile_change(state, p, before, old, after, new, count) }
+                });
+            }
+        }
+    }
+}
+
+/// Seal and check. No number is left to the seal, so no slip is written.
+#[test]
+fn slips() {
+    let around = [35, SLIP_BYTES, 37, (1 << 32) + SLIP_BYTES];
+    for n in FILES {
+        for size in LENGTHS.into_iter().chain(around) {
+            let past = (too_long(n.into()), TOO_LONG);
+            let wrong = (size != SLIP_BYTES, BAD_BUFFER);
+            let name = format!("seal of {size} bytes, file of {n}");
+            let expected = refuse(&[past, wrong, (true, USED_UP)]);
+            expect(&name, expected, false, &Lent::of(n), |lent| {
+                let (slip, state) = (lent.out(size), lent.state.as_mut_ptr());
+                // SAFETY: what is claimed is on the forbidden page.
+                unsafe { c::armfile_seal(state, slip, size) }
+            });
+            let name = format!("check of {size} bytes, file of {n}");
+            expect(&name, refuse(&[past, wrong]), false, &Lent::of(n), |lent| {
+                let (state, verdict) = (lent.state.as_ptr(), &mut lent.verdict);
+                // SAFETY: what is claimed is on the forbidden page.
+                unsafe { c::armfile_check(state, input(size), size, verdict) }
+            });
+        }
+    }
+}

@@ -1,0 +1,100 @@
+//! Long inputs: what a call does with its first bytes it must do with all.
+
+use armfile::SLIP_BYTES;
+use compare::{Call, Case, Lent};
+
+use crate::choose::{output, LONG};
+
+/// Every input of the case's length, one at a time, beside short ones.
+pub fn inputs(case: &mut Case) {
+    let long = LONG[case.index() as usize];
+    hashes(case, long);
+    let short = case.random.below(100) as usize;
+    let mut lent = read(case, short);
+    let bytes = case.random.bytes(long);
+    let whole = bytes[..long / 16 * 16].to_vec();
+    let edits = [
+        Call::Append {
+            bytes: bytes.clone(),
+        },
+        Call::Prepend {
+            bytes: whole.clone(),
+        },
+        Call::Change {
+            p: case.random.below(40),
+            old: case.random.bytes(long),
+            new: bytes.clone(),
+        },
+        Call::DropFront { bytes: whole },
+        Call::CutTail { bytes },
+    ];
+    for call in edits {
+        assert_eq!(case.call(&call, &mut lent), 0);
+    }
+    sealed_and_checked(case, lent);
+    let lent = read(case, long);
+    sealed_and_checked(case, lent);
+}
+
+/// A file of some MiB, read and hashed.
+pub fn file(case: &mut Case) {
+    let lent = read(case, (3 << 20) + 7);
+    sealed_and_checked(case, lent);
+    let ghash = Call::Ghash {
+        h: case.random.bytes(16),
+        a: case.random.bytes((2 << 20) + 1),
+        c: case.random.bytes((1 << 20) + 3),
+    };
+    hash(case, &ghash);
+}
+
+/// GHASH with A and with C of this length, and GMAC with a message and with a
+/// nonce of it.
+fn hashes(case: &mut Case, long: usize) {
+    let key = case.random.bytes(16);
+    let bytes = case.random.bytes(long);
+    let short = case.random.bytes(21);
+    for (a, c) in [(&bytes, &short), (&short, &bytes)] {
+        let (a, c) = (a.clone(), c.clone());
+        let ghash = Call::Ghash {
+            h: key.clone(),
+            a: a.clone(),
+            c: c.clone(),
+        };
+        let gmac = Call::Gmac {
+            key: key.clone(),
+            nonce: a,
+            a: c,
+        };
+        for call in [ghash, gmac] {
+            hash(case, &call);
+        }
+    }
+}
+
+fn hash(case: &mut Case, call: &Call) {
+    let mut lent = Lent::new();
+    lent.out = output(&mut case.random, 16);
+    assert_eq!(case.call(call, &mut lent), 0);
+}
+
+/// The state of a random file of this length.
+fn read(case: &mut Case, length: usize) -> Lent {
+    let call = Call::Read {
+        key: case.random.bytes(16),
+        arm: 3,
+        last: 4,
+        file: case.random.bytes(length),
+    };
+    let mut lent = Lent::new();
+    assert_eq!(case.call(&call, &mut lent), 0);
+    lent
+}
+
+fn sealed_and_checked(case: &mut Case, mut lent: Lent) {
+    lent.out = output(&mut case.random, SLIP_BYTES);
+    assert_eq!(case.call(&Call::Seal, &mut lent), 0);
+    let slip = lent.out.clone();
+    assert_eq!(case.call(&Call::Check { slip }, &mut lent), 0);
+    assert_eq!(lent.verdict, 1, "the slip just sealed is genuine");
+}

@@ -1,0 +1,89 @@
+//! Inputs of more bytes than 24 bits count. They are zero but for their first
+//! and their last block, so that the second implementation needs two powers of
+//! H in place of all the products.
+
+#![forbid(unsafe_code)]
+
+use armfile::State;
+use reference::field::{add, multiply, power, Block};
+use reference::ghash::{block_count, blocks_of, hash_key, pair_block};
+use reference::random::Random;
+use reference::{aes, state};
+
+/// Bytes that are zero but for the first block and the last, which is short.
+fn sparse(random: &mut Random, n: usize) -> Vec<u8> {
+    let mut bytes = vec![0; n];
+    bytes[..16].copy_from_slice(&random.block());
+    bytes[n / 16 * 16..].fill_with(|| random.number() as u8);
+    bytes
+}
+
+/// The sum of such bytes: the first block weighs H^m, the last H.
+fn sum(h: &Block, bytes: &[u8]) -> Block {
+    let first = blocks_of(&bytes[..16])[0];
+    let last = blocks_of(&bytes[bytes.len() / 16 * 16..])[0];
+    let m = block_count(bytes.len() as u64);
+    let weighed = multiply(&first, &power(h, m.into()));
+    add(&weighed, &multiply(&last, h))
+}
+
+/// GHASH of such bytes as A, or as C, and of nothing as the other.
+fn hash(h: &Block, bytes: &[u8], as_c: bool) -> Block {
+    let bits = 8 * bytes.len() as u64;
+    let lengths = if as_c {
+        pair_block(0, bits)
+    } else {
+        pair_block(bits, 0)
+    };
+    multiply(&add(&sum(h, bytes), &lengths), h)
+}
+
+/// Each input of this length in turn.
+fn counted(n: usize) {
+    let mut random = Random::for_test(11);
+    let bytes = sparse(&mut random, n);
+    let (key, mut out) = (random.block(), [0; 16]);
+    armfile::ghash(&key, &bytes, &[], &mut out).expect("a hash");
+    assert_eq!(out, hash(&key, &bytes, false), "A");
+    armfile::ghash(&key, &[], &bytes, &mut out).expect("a hash");
+    assert_eq!(out, hash(&key, &bytes, true), "C");
+
+    let h = hash_key(&key);
+    let mut first_counter = *b"a short one.\0\0\0\x01";
+    armfile::gmac(&key, &first_counter[..12], &bytes, &mut out).expect("a tag");
+    let mask = aes::encrypt(&key, &first_counter);
+    assert_eq!(out, add(&hash(&h, &bytes, false), &mask), "a message");
+    armfile::gmac(&key, &bytes, &[], &mut out).expect("a tag");
+    first_counter = hash(&h, &bytes, true);
+    assert_eq!(out, aes::encrypt(&key, &first_counter), "a nonce");
+
+    let read = State::read(&key, 5, 6, &bytes).expect("a state");
+    let expected = state::State {
+        s: sum(&h, &bytes),
+        ..state::State::start(&key, 5, 6, n as u64).expect("a state")
+    };
+    assert_eq!(read.as_bytes(), &expected.state_bytes(), "a file");
+}
+
+/// What is counted here in two powers is what the second implementation counts.
+#[test]
+fn short_inputs() {
+    let mut random = Random::for_test(12);
+    for n in [17, 31, 33, 4097] {
+        let (h, bytes) = (random.block(), sparse(&mut random, n));
+        assert_eq!(
+            hash(&h, &bytes, false),
+            reference::ghash::ghash(&h, &bytes, &[])
+        );
+        assert_eq!(
+            hash(&h, &bytes, true),
+            reference::ghash::ghash(&h, &[], &bytes)
+        );
+    }
+    counted(4097);
+}
+
+#[test]
+fn more_than_2_24_bytes() {
+    counted((1 << 24) + 21);
+}
