@@ -96,15 +96,15 @@
  * them as orders of magnitude, and `make cost` for your own machine:
  *
  *      armfile_start                                    60 000
- *      armfile_read of 1 KiB, of 1 MiB        80 000, 34 000 000
- *      armfile_append of 16 bytes, of 4 KiB          900, 66 000
- *      armfile_change of 16 bytes, first of 1 GiB       13 000
+ *      armfile_read of 1 KiB, of 1 MiB        76 000, 16 000 000
+ *      armfile_append of 16 bytes, of 4 KiB          830, 63 000
+ *      armfile_change of 16 bytes, first of 1 GiB       12 000
  *      armfile_cut_tail of 16 bytes                        900
  *      armfile_seal, armfile_check                2 300, 2 400
  *      armfile_gmac of 1 KiB                            20 000
  *      armfile_encrypt, armfile_multiply            2 000, 300
  *
- * Most of it is products of blocks, about 260 each in a long run; an edit
+ * Most of it is products of blocks, about 240 each in a long run; an edit
  * returns how many it took. What armfile_start and armfile_read take besides
  * the file is H's companion I, some 250 products.
  *
