@@ -9,6 +9,7 @@ pub mod SlipLaws
 pub mod SealReturns
 pub mod Calls
 pub mod Demand1
+pub mod EditAnswers
 pub mod SealLaws
 pub mod Numbers
 pub mod Invariant
