@@ -1,0 +1,8 @@
+-- The journal's laws, from the bottom up.
+pub mod RecordLaws
+pub mod Format
+pub mod ReaderWalks
+pub mod OpeningLaws
+pub mod ReplayLaws
+pub mod Singly
+pub mod Lists

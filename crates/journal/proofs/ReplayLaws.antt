@@ -1,0 +1,149 @@
+-- Replay, a law for each return. The loop's invariant (`Standing`) says what remains: the records from here on give what the whole journal
+-- gives; and it bounds the count by the place, so that the total has room in a word.
+-- They rest on what an opening tells (`OpeningLaws`) and on the file keeper's bound on an edit's count (`EditAnswers`).
+use mathlib.Core.Path.{_≡_, refl, sym, ap, subst, _∙_}
+use mathlib.Core.List.{List}
+use Prim.Native.Nat.{ℕ, suc, _+_, _-_, _*_, _^_, _≤_, _<_}
+use native.Mathlib.Omega.{arith}
+use lib.ListN.{length, take, drop}
+use borrow.Author.Tests.{eq-eqb, ne-eqb, ltb-false}
+use Rattle.refusals.proofs.Laws.{first-passed}
+use Rattle.field.specs.declared.multiplying.Count.{Count}
+use Rattle.file.specs.declared.causes.Cause as keeper′
+use Rattle.file.specs.declared.states.State.{State}
+use Rattle.file.specs.declared.states.Answered.{Answered}
+use Rattle.file.specs.declared.states.Outcome.the-variants as outcome
+use Rattle.file.specs.Edits as keeper
+use Rattle.file.specs.States.{StateAnswer, edited}
+use Rattle.file.specs.Contracts as law
+use Rattle.file.specs.Contracts.{outcomeRefusal, outcomeCount, stateAnswer}
+use Rattle.file.proofs.EditAnswers.{edited-few}
+use Rattle.file.proofs.ShapeLaws as shape
+use Rattle.journal.specs.declared.causes.Cause.{Cause}
+use Rattle.journal.specs.declared.causes.Answer.{Answer}
+use Rattle.journal.specs.declared.causes.Answer.the-variants as answer
+use Rattle.journal.specs.declared.records.Span.{Span}
+use Rattle.journal.specs.declared.records.Edit.{Edit}
+use Rattle.journal.specs.declared.records.Opened.{Opened}
+use Rattle.journal.specs.declared.records.Opened.the-variants as opened
+use Rattle.journal.specs.Records.{recordBytes, opens, ended, opening}
+use Rattle.journal.specs.Journals.{maxJournal, ReplayAnswer, stoppedAt, openedJournal, journalFrom, applied, replayRefusal, replayed}
+use Rattle.journal.specs.Contracts.{causeNumber, answerRefusal, bytesIn, editOf, openingOf, OpenedAt}
+use Rattle.journal.proofs.RecordLaws.{cause-pos}
+use Rattle.journal.proofs.OpeningLaws.{Tells, tells, applied-opens, applied-refused, applied-ended}
+
+-- ---- one record
+
+-- the part of a slice between a span's ends is the span's bytes
+pub span-part : (j : List ℕ) (s : Span) → take (s .at + s .size - s .at) (drop (s .at) j) ≡ bytesIn j s
+span-part j s =
+    let size : s .at + s .size - s .at ≡ s .size = omega arith in
+    ap (λ (n : ℕ). take n (drop (s .at) j)) size
+
+-- k is the file keeper's edit of a record's edit, and x what its call answered
+pub applied-as : (j : List ℕ) (st : State) {e f : Edit} {k : keeper.Edit} {x : StateAnswer} → e ≡ f → k ≡ editOf j f → x ≡ edited st k
+    → x ≡ edited st (editOf j e)
+applied-as j st q ek ex = ex ∙ ap (edited st) (ek ∙ sym (ap (editOf j) q))
+
+-- ---- the loop over the records
+
+-- the records from a place on, of which `most` and one more are enough, give what the whole journal gives
+pub record Standing (j : List ℕ) (st₀ st : State) (at count : ℕ) : Type 0 where
+  pub most : ℕ
+  pub rest : applied st count (journalFrom (suc most) j at) ≡ applied st₀ 0 (openedJournal j)
+  pub within : at ≤ length j
+  pub enough : length j ≤ at + most
+  pub few : count ≤ 11 * at
+
+pub standing-start : (j : List ℕ) (st : State) → Standing j st st 0 0
+unfolding openedJournal
+standing-start j st = record { most = length j; rest = refl; within = omega arith; enough = omega arith; few = omega arith }
+
+module _ {j : List ℕ} {st₀ st : State} {at count : ℕ} (s : Standing j st₀ st at count) {o : Opened} (h : OpenedAt j at o) where
+  pub standing-end : o ≡ opened.End → stoppedAt st count 0 (length j) ≡ applied st₀ 0 (openedJournal j)
+  standing-end q =
+      let e : opening j at ≡ ended = sym (h .same) ∙ ap (openingOf j) q in
+      let end : length j ≤ at = subst (Tells j at) e (tells j at) in
+      let here : length j ≡ at = omega (arith, s .within) in
+      ap (stoppedAt st count 0) here ∙ sym (applied-ended (s .most) j at st count e) ∙ s .rest
+
+  pub standing-refused : {c : Cause} → o ≡ opened.Refused c → stoppedAt st count (causeNumber c) at ≡ applied st₀ 0 (openedJournal j)
+  standing-refused q = sym (applied-refused (s .most) j at st count (sym (h .same) ∙ ap (openingOf j) q)) ∙ s .rest
+
+  module _ {e : Edit} {next : ℕ} (q : o ≡ opened.Record e next) where
+    here : opening j at ≡ opens (editOf j e) next
+    here = sym (h .same) ∙ ap (openingOf j) q
+
+    -- the place moves on, and stays in the journal
+    record-within : (next ≡ at + recordBytes (editOf j e)) × (next ≤ length j)
+    record-within = subst (Tells j at) here (tells j at)
+
+    pub record-less : length j - next < length j - at
+    unfolding recordBytes
+    record-less = omega (arith, record-within, s .within)
+
+    -- x is what the edit's call answered
+    module _ (x : Answered) (a : stateAnswer x ≡ edited st (editOf j e)) where
+      pub standing-stopped : {c : keeper′.Cause} → x .outcome ≡ outcome.Refused c
+          → stoppedAt st count (law.causeNumber c) at ≡ applied st₀ 0 (openedJournal j)
+      standing-stopped {c} r =
+          let n : law.causeNumber c ≡ edited st (editOf j e) .refusal =
+          sym (ap outcomeRefusal r) ∙ ap (λ (y : StateAnswer). y .refusal) a
+          in
+          ap (λ (m : ℕ). stoppedAt st count m at) n
+          ∙ sym (applied-opens (s .most) j at st count here ∙ simp (ne-eqb (edited st (editOf j e) .refusal) 0 (λ z. omega (arith, n, shape.cause-pos c))))
+          ∙ s .rest
+
+      -- m is the count that it reports
+      module _ {p : Count} {m : ℕ} (d : x .outcome ≡ outcome.Done p) (em : m ≡ p .raised) where
+        accepted : edited st (editOf j e) .refusal ≡ 0
+        accepted = sym (ap (λ (y : StateAnswer). y .refusal) a) ∙ ap outcomeRefusal d
+
+        counted : m ≡ edited st (editOf j e) .count
+        counted = em ∙ sym (ap outcomeCount d) ∙ ap (λ (y : StateAnswer). y .count) a
+
+        -- each record counts at most 130 more than its bytes, and they are 12 more than those it gives
+        count-few : count + m ≤ 11 * next
+        unfolding recordBytes
+        count-few = omega (arith, counted, edited-few st (editOf j e), record-within .0, s .few)
+
+        -- so the total has room in a word
+        pub count-fits : length j ≤ maxJournal → count + m < 2 ^ 64
+        count-fits l = omega (arith, count-few, record-within .1)
+
+        pub standing-next : Standing j st₀ (x .state) next (count + m)
+        unfolding recordBytes
+        standing-next =
+            let later : suc (s .most - 1) ≡ s .most = omega (arith, record-within, s .enough) in
+            let state : x .state ≡ edited st (editOf j e) .state = ap (λ (y : StateAnswer). y .state) a in
+            record {
+              most = s .most - 1;
+              rest =
+                  rw (later, state, counted)
+                  (sym (applied-opens (s .most) j at st count here ∙ simp (eq-eqb (edited st (editOf j e) .refusal) 0 accepted)) ∙ s .rest);
+              within = record-within .1;
+              enough = omega (arith, record-within, s .enough);
+              few = count-few;
+            }
+
+-- ---- the journal as a whole
+
+-- a is the answer on state and journal as a whole
+module _ (st : State) (j : List ℕ) {a : Answer} (e : answerRefusal a ≡ replayRefusal (st .n) j) where
+  pub replayed-refused : {c : Cause} → a ≡ answer.Refused c → stoppedAt st 0 (answerRefusal a) 0 ≡ replayed st j
+  unfolding replayed
+  replayed-refused {c} q =
+      let n : replayRefusal (st .n) j ≡ causeNumber c = sym e ∙ ap answerRefusal q in
+      ap (λ (m : ℕ). stoppedAt st 0 m 0) e ∙ simp (ne-eqb (replayRefusal (st .n) j) 0 (λ z. omega (arith, n, cause-pos c)))
+
+  module _ (q : a ≡ answer.Done) where
+    passed : replayRefusal (st .n) j ≡ 0
+    passed = sym e ∙ ap answerRefusal q
+
+    pub replayed-short : length j ≤ maxJournal
+    unfolding replayRefusal
+    replayed-short = ltb-false maxJournal (length j) (first-passed _ _ _ (first-passed _ _ _ passed (omega arith) .1) (omega arith) .0)
+
+    pub replayed-all : {x : ReplayAnswer} → x ≡ applied st 0 (openedJournal j) → x ≡ replayed st j
+    unfolding replayed
+    replayed-all x = x ∙ simp (eq-eqb (replayRefusal (st .n) j) 0 passed)

@@ -1,0 +1,5 @@
+-- The definitions, from the bottom up; `Contracts` is what serves contracts alone.
+pub mod Records
+pub mod Journals
+pub mod Singly
+pub mod Contracts
