@@ -4,9 +4,10 @@
  * A controller keeps no motion file, only a state of 84 bytes: key, hash key H
  * and its companion I, running sum (GHASH without its length block), length,
  * arm number, last used seal number. Five edits move that state without
- * reading the file. A seal writes a slip of 36 bytes whose tag is AES-128 GMAC
- * of the whole file; a check says whether a slip is genuine. FIPS 197 decides
- * for AES, NIST SP 800-38D for the field, GHASH and GMAC.
+ * reading the file, one by one or as a journal of them. A seal writes a slip of
+ * 36 bytes whose tag is AES-128 GMAC of the whole file; a check says whether a
+ * slip is genuine. FIPS 197 decides for AES, NIST SP 800-38D for the field,
+ * GHASH and GMAC.
  *
  * The library is for x86-64 and needs no other library.
  *
@@ -15,10 +16,11 @@
  * Every function but the three that read a state's fields (armfile_length,
  * armfile_arm, armfile_last) returns 0 when the work was done, or the number of
  * a refusal (below). A refused call leaves every lent buffer, the state, the
- * count and the verdict as they were. No input makes a call fail in any other
- * way: there is no abort, no assertion and no error state. This is proved, for
- * all inputs, of the source; the compiler's back end and linker are not
- * covered.
+ * count and the verdict as they were, with one exception: armfile_replay always
+ * writes state, count and offset, and what it did before the refused record
+ * stays done. No input makes a call fail in any other way: there is no abort,
+ * no assertion and no error state. This is proved, for all inputs, of the
+ * source; the compiler's back end and linker are not covered.
  *
  * Nothing is allocated, and no static data is written: calls on different
  * states may run in different threads. Calls on one state must not overlap in
@@ -35,13 +37,14 @@
  *    address of an object then serves).
  *  - Every length is the true one: that many bytes may be read, and of `out`
  *    and a seal's `slip` written. It is below 2^63.
- *  - `state` points to ARMFILE_STATE_BYTES bytes, `count` to an aligned
- *    uint64_t, `verdict` to one byte. None of them needs a value before the
- *    call, but for a state that is read: that of an edit, a seal, a check or
- *    one of the three that read its fields.
- *  - What a call may write (a state that is not const, count, out, the slip of
- *    a seal, verdict) overlaps nothing else that is passed to it. What is only
- *    read may overlap freely: old and new of a change may be the same bytes.
+ *  - `state` points to ARMFILE_STATE_BYTES bytes, `count` and `offset` each to
+ *    an aligned uint64_t, `verdict` to one byte. None of them needs a value
+ *    before the call, but for a state that is read: that of an edit, a replay,
+ *    a seal, a check or one of the three that read its fields.
+ *  - What a call may write (a state that is not const, count, offset, out, the
+ *    slip of a seal, verdict) overlaps nothing else that is passed to it. What
+ *    is only read may overlap freely: old and new of a change may be the same
+ *    bytes.
  *
  * TIME
  *
@@ -52,10 +55,10 @@
  * armfile_start, armfile_read, armfile_seal, armfile_check) is not
  * constant-time. And, in armfile_check, there is one jump on the verdict,
  * which is public: two tags are compared by one test of all their bits. Time
- * does depend on lengths, on places (p, n), on the arm number, on seal numbers
- * and on a slip's bytes outside its tag; these are taken for public. This is
- * observed of the compiled library (tests/ct), and is not part of what is
- * proved.
+ * does depend on lengths, on places (p, n), on the arm number, on seal numbers,
+ * on a slip's bytes outside its tag and on the heads of a journal's records;
+ * these are taken for public. This is observed of the compiled library
+ * (tests/ct), and is not part of what is proved.
  *
  * STACK
  *
@@ -71,6 +74,7 @@
  *      armfile_read       992      armfile_check       1056
  *      armfile_change     704      armfile_length         8
  *      armfile_arm          8      armfile_last           8
+ *      armfile_replay     960
  *
  * WHAT TO WIPE
  *
@@ -87,7 +91,8 @@
  *  - every state that is no longer used, copies too: it holds the key;
  *  - its own copies of the key.
  *
- * Slips, counts and verdicts are no secret. Registers were not looked into.
+ * Slips, counts, offsets and verdicts are no secret. Registers were not looked
+ * into.
  *
  * COST
  *
@@ -106,7 +111,8 @@
  *
  * Most of it is products of blocks, about 240 each in a long run; an edit
  * returns how many it took. What armfile_start and armfile_read take besides
- * the file is H's companion I, some 250 products.
+ * the file is H's companion I, some 250 products. A replay takes a little less
+ * than its edits when they are made singly.
  *
  * THE STATE
  *
@@ -132,10 +138,10 @@
  * that no caller needs this layout.
  *
  * Any ARMFILE_STATE_BYTES bytes are taken as a state; no call trusts what it
- * finds there. Where n passes 2^61 - 1, every edit, seal and check refuses the
- * state with 2 before all else; otherwise the call does its work on the fields
- * as they are. Only states that come from armfile_start or armfile_read and
- * the calls after it stand for a file.
+ * finds there. Where n passes 2^61 - 1, every edit, replay, seal and check
+ * refuses the state with 2 before all else; otherwise the call does its work on
+ * the fields as they are. Only states that come from armfile_start or
+ * armfile_read and the calls after it stand for a file.
  *
  * A FILE IN PIECES
  *
@@ -151,7 +157,8 @@
  * The library cannot see the file. Where armfile_change is given old bytes, or
  * armfile_drop_front or armfile_cut_tail removed bytes, that the file does not
  * have at that place, the call is accepted and the state stands for no file
- * from then on: seals of it are not GMAC of the file.
+ * from then on: seals of it are not GMAC of the file. The same goes for the
+ * records of a journal, each of which meets the file that those before it left.
  */
 #ifndef ARMFILE_H
 #define ARMFILE_H
@@ -174,6 +181,9 @@ extern "C" {
 
 /** \brief The longest file, A, C or nonce in bytes: 2^61 - 1. */
 #define ARMFILE_MAX_BYTES UINT64_C(0x1fffffffffffffff)
+
+/** \brief The longest journal in bytes: 2^40. */
+#define ARMFILE_MAX_JOURNAL_BYTES UINT64_C(0x10000000000)
 
 /**
  * \brief The version of a slip, in its first 3 bits: slip[0] >> 5. (The refusal
@@ -214,6 +224,12 @@ extern "C" {
 #define ARMFILE_SLIP_VERSION 8
 /** \brief The nonce is empty. */
 #define ARMFILE_EMPTY_NONCE 9
+/** \brief The journal passes 2^40 bytes, or ends inside a record. */
+#define ARMFILE_JOURNAL_LENGTH 10
+/** \brief The record's kind is 0, 6 or 7. */
+#define ARMFILE_RECORD_KIND 11
+/** \brief The record is no change, and its place is not 0. */
+#define ARMFILE_RECORD_PLACE 12
 
 /* ==================================================================== */
 /* Cipher, field, GHASH and GMAC: no state.                             */
@@ -469,6 +485,68 @@ uint64_t armfile_drop_front(uint8_t state[ARMFILE_STATE_BYTES],
  */
 uint64_t armfile_cut_tail(uint8_t state[ARMFILE_STATE_BYTES],
 	const uint8_t *bytes, size_t bytes_len, uint64_t *count);
+
+/* ==================================================================== */
+/* A journal of edits.                                                  */
+/*                                                                      */
+/* A journal is records back to back. A record is a head of 12 bytes,   */
+/* packed most significant bit first, and the bytes of one edit:        */
+/*                                                                      */
+/*   3 bits   kind: 1 change, 2 append, 3 prepend, 4 drop-front,        */
+/*            5 cut-tail                                                */
+/*  61 bits   place p: that of a change; 0 in a record of another kind  */
+/*  32 bits   length l                                                  */
+/*   l bytes  those of the edit, or for a change l old ones and then    */
+/*            l new ones                                                */
+/*                                                                      */
+/* So an append of two bytes, 61 and 62, is the record, in hexadecimal, */
+/* 40 00 00 00 00 00 00 00  00 00 00 02  61 62.                         */
+
+/**
+ * \brief Replays a journal: makes the edits of its records in order, up to the
+ * first that is refused.
+ *
+ * UNLIKE EVERY OTHER CALL, THIS ONE ALWAYS WRITES: whatever it returns, it puts
+ * state, count and offset. They are those of the records before the refused
+ * one, and of all records where none is refused: the state that the same edits
+ * leave when they are made singly, the sum of their counts, and the number of
+ * bytes of those records. So `offset` is the refused record's first byte,
+ * counted from 0, or `journal_len` where 0 is returned.
+ *
+ * A caller who wants all or nothing keeps a copy of the state's
+ * ARMFILE_STATE_BYTES bytes, puts it back where the call is refused, and wipes
+ * it afterwards. No record seals, so going back repeats no seal number.
+ *
+ * Refused with 2 where the state's length passes 2^61 - 1, then with 10 where
+ * `journal_len` passes 2^40; no byte of the journal is then read, the state is
+ * as it was, and count and offset are 0. Then, of each record in turn, with 10
+ * where fewer bytes remain than it needs: 12, then 2l more for a change and l
+ * for any other kind, those that are refused among them; then with 11 where its
+ * kind is 0, 6 or 7, then with 12 where p is not 0 and the kind is not 1, then
+ * as its edit is: append with 2; prepend with 5, then 2; drop-front with 5,
+ * then 3; change and cut-tail with 3. An edit of no bytes is a record like any
+ * other. An empty journal is accepted where the state is, and counts 0.
+ *
+ * A journal may come in pieces: where one ends inside a record 10 is returned,
+ * and the next call is given the bytes from `offset` on and those that follow
+ * them. Count and offset are then of that piece alone, and the buffer must hold
+ * the longest record whole. At the journal's true end 10 means that it was cut
+ * short or damaged.
+ *
+ * \param state        the state, ARMFILE_STATE_BYTES bytes; updated, also where
+ *                     the call is refused.
+ * \param journal      the journal; it may be empty. It must not overlap state,
+ *                     count or offset.
+ * \param journal_len  its length, at most 2^40.
+ * \param count        receives the number of products of all the records
+ *                     before `offset`.
+ * \param offset       receives the first byte of the refused record, or
+ *                     journal_len. It must not be count.
+ * \return 0, 2, 10, 11, 12, 5 or 3.
+ */
+uint64_t armfile_replay(uint8_t state[ARMFILE_STATE_BYTES],
+	const uint8_t *journal, size_t journal_len,
+	uint64_t *count, uint64_t *offset);
 
 /* ==================================================================== */
 /* Seal and check.                                                      */

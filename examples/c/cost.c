@@ -7,9 +7,12 @@
 
 #define TIMES 301
 #define KIB ((size_t)1024)
+#define APPENDS 100
+#define RECORD (12 + 16) /* a record of 16 bytes */
 
 static uint8_t key[ARMFILE_BLOCK_BYTES], file[1024 * KIB], tag[ARMFILE_BLOCK_BYTES], slip[ARMFILE_SLIP_BYTES], verdict;
-static uint64_t count;
+static uint8_t journal[APPENDS * RECORD];
+static uint64_t count, offset;
 
 static uint64_t now(void)
 {
@@ -46,6 +49,10 @@ static int compare(const void *a, const void *b)
 
 int main(void)
 {
+	for (size_t i = 0; i < sizeof journal; i += RECORD) {
+		journal[i] = 2 << 5; /* the kind: an append */
+		journal[i + 11] = 16;
+	}
 	COST("start", TIMES, 0, armfile_start(key, sizeof key, 7, 0, 0, state));
 	COST("read of 1 KiB", TIMES, 0, armfile_read(key, sizeof key, 7, 0, file, KIB, state));
 	COST("read of 1 MiB", 9, 0, armfile_read(key, sizeof key, 7, 0, file, 1024 * KIB, state));
@@ -53,6 +60,7 @@ int main(void)
 	COST("append of 4 KiB", TIMES, 0, armfile_append(state, file, 4 * KIB, &count));
 	COST("change of 16 bytes, first of 1 GiB", TIMES, KIB << 20, armfile_change(state, 0, file, 16, file, 16, &count));
 	COST("cut_tail of 16 bytes", TIMES, 16, armfile_cut_tail(state, file, 16, &count));
+	COST("replay of 100 appends of 16 bytes", TIMES, 0, armfile_replay(state, journal, sizeof journal, &count, &offset));
 	COST("seal", TIMES, 0, armfile_seal(state, slip, sizeof slip));
 	COST("check", TIMES, 0, armfile_check(state, slip, sizeof slip, &verdict));
 	COST("gmac of 1 KiB", TIMES, 0, armfile_gmac(key, sizeof key, key, 12, file, KIB, tag, sizeof tag));

@@ -8,8 +8,8 @@ use mathlib.Core.List.{List, [], _∷_, _++_}
 use Prim.Native.Nat.{ℕ, _+_, _<_, _^_}
 use native.Mathlib.Omega.{arith}
 use lib.Dec.{eqb}
-use lib.ListN.{length}
-use borrow.Author.Tests.{eq-eqb, eqb-true, eqb-false}
+use lib.ListN.{length, getD}
+use borrow.Author.Tests.{eq-eqb, ne-eqb, eqb-true, eqb-false}
 use Rattle.cipher.specs.Aes.{keyFits}
 use Rattle.cipher.proofs.AesLaws.{fits-length}
 use Rattle.field.specs.Field.{Small}
@@ -17,19 +17,22 @@ use Rattle.field.proofs.Powers.{small-companion}
 use Rattle.gcm.specs.Gcm.{hashKey}
 use Rattle.gcm.proofs.TagLaws.{small-hash}
 use Rattle.file.specs.declared.states.State.{State}
-use Rattle.file.specs.States.{keyOf, StateAnswer, edited}
+use Rattle.file.specs.States.{keyOf, StateAnswer, edited, started, readFile}
 use Rattle.file.specs.Slips.{SealAnswer, sealed, checked}
 use Rattle.file.specs.Calls.{Call, edit, seal, check, callAnswer}
-use Rattle.file.specs.Machine.{Machine}
+use Rattle.file.specs.Machine.{Machine, blank, lent as lentFile}
 use Rattle.file.specs.Runs.{Run, begun, further, run, fromStart, fromRead}
 use Rattle.file.proofs.Calls.{begun-start, begun-read}
 use Rattle.file.proofs.Demand1.{edited-kept, sealed-kept}
 use Rattle.file.proofs.Invariant.{Holds, holds-start, holds-read, holds-kept}
-use Rattle.capi.specs.Bytes.{packedState, stateFrom}
-use Rattle.capi.specs.Calls.{EditCall, kept, editCall, keptAtStart, startCall, readCall, stamped, sealCall, judged, checkCall}
+use Rattle.journal.specs.Journals.{replayRefusal, replayed}
+use Rattle.journal.specs.Singly.{Task, call, replay, Editor, worked, taskCalls, asCalls}
+use Rattle.journal.proofs.Lists.{editorOf, run-append, holds-run, task-same}
+use Rattle.capi.specs.Bytes.{stateBytes, packedState, stateFrom}
+use Rattle.capi.specs.Calls.{EditCall, kept, editCall, keptAtStart, startCall, readCall, stamped, sealCall, judged, checkCall, written, replayCall}
 use Rattle.capi.specs.Contracts.{editResult}
-use Rattle.capi.specs.LentRuns.{lentCall, LentRun, lentBegun, lentFurther, lentRun, Boundary, BoundaryTheorem}
-use Rattle.capi.proofs.StateBytes.{HasRoom, state-back}
+use Rattle.capi.specs.LentRuns.{lentCall, LentRun, lentBegun, lentWith, lentFurther, lentRun, lentTask, lentTasks, Held, Boundary, BoundaryTheorem}
+use Rattle.capi.proofs.StateBytes.{HasRoom, state-back, bytes-back}
 
 -- ---- one call on the bytes of a state
 
@@ -83,29 +86,59 @@ module _ (key : List ℕ) (arm : ℕ) (k : keyFits key ≡ true) (w : arm < 2 ^ 
         last = omega arith;
       }
 
-  boundary : (l : LentRun) (r : Run) → Holds key arm (r .state) (r .machine) → l .state ≡ packedState (r .state) → l .refusals ≡ r .refusals
-      → l .total ≡ r .total → Boundary l r
-  unfolding sealCall stamped checkCall
-  boundary l r h b a t =
+  held : (l : LentRun) (r : Run) → Holds key arm (r .state) (r .machine) → l .state ≡ packedState (r .state) → l .total ≡ r .total → Held l r
+  unfolding sealCall stamped checkCall replayCall
+  held l r h b t =
       let back : stateFrom (l .state) ≡ r .state = ap stateFrom b ∙ state-back (r .state) (has-room (r .state) (r .machine) h) in
       record {
         state = back;
-        refusals = a;
         total = t;
         slips = λ out. ap (λ (st : State). sealed st out .slip) back;
         verdicts = λ slip verdict. ap (λ (st : State). judged (checked st slip) verdict) back;
+        replays = λ j. ap (λ (st : State). written (replayed st j)) back;
       }
 
   boundary-run : (l : LentRun) (r : Run) (calls : List Call) → Holds key arm (r .state) (r .machine) → l .state ≡ packedState (r .state)
       → l .refusals ≡ r .refusals → l .total ≡ r .total → Boundary (lentRun l calls) (run r calls)
-  unfolding lentRun run lentFurther further
-  boundary-run l r [] h b a t = boundary l r h b a t
+  unfolding lentRun run lentFurther lentWith further
+  boundary-run l r [] h b a t = record { held = held l r h b t; refusals = a }
   boundary-run l r (c ∷ cs) h b a t =
       let e = ap (λ (x : List ℕ). lentCall x c) b ∙ lent-call (r .state) (has-room (r .state) (r .machine) h) c in
       boundary-run (lentFurther l c) (further r c) cs (holds-kept key arm (r .state) (r .machine) h c)
       (ap (λ (x : EditCall). x .state) e)
       (ap₂ (λ (x : List ℕ) (y : EditCall). x ++ (y .refusal ∷ [])) a e)
       (ap₂ (λ (x : ℕ) (y : EditCall). x + y .count) t e)
+
+  -- a task leaves the bytes of the state that the editor's work leaves
+  lent-task : (w : Editor) → HasRoom (w .state) → (t : Task)
+      → let a = lentTask (packedState (w .state)) t in
+      (a .state ≡ packedState (worked w t .state)) × (w .total + a .count ≡ worked w t .total)
+  unfolding lentTask worked replayCall written
+  lent-task w f (call c) =
+      let e = lent-call (w .state) f c in
+      (ap (λ (x : EditCall). x .state) e, ap (λ (x : EditCall). w .total + x .count) e)
+  lent-task w f (replay j) = (rw (state-back (w .state) f), rw (state-back (w .state) f))
+
+  -- and so does a list of tasks
+  task-run : (l : LentRun) (r : Run) (ts : List Task) → Holds key arm (r .state) (r .machine) → l .state ≡ packedState (r .state)
+      → l .total ≡ r .total → Held (lentTasks l ts) (run r (asCalls r ts))
+  unfolding lentTasks asCalls lentWith
+  task-run l r [] h b t = unfold run in held l r h b t
+  task-run l r (x ∷ xs) h b t =
+      let calls = taskCalls (length (r .machine .bytes)) x in
+      let same = task-same key arm r [] x h in
+      let e = lent-task (editorOf r []) (has-room (r .state) (r .machine) h) x in
+      rw (run-append r calls (asCalls (run r calls) xs))
+      (task-run (lentWith l (lentTask (l .state) x)) (run r calls) xs (holds-run key arm r calls h)
+      (ap (λ (s : List ℕ). lentTask s x .state) b ∙ e .0 ∙ ap (λ (w : Editor). packedState (w .state)) same)
+      (ap₂ (λ (n : ℕ) (s : List ℕ). n + lentTask s x .count) t b ∙ e .1 ∙ ap (λ (w : Editor). w .total) same))
+
+-- a journal that is refused as a whole leaves the bytes of the state that was read
+whole-kept : (state j : List ℕ) → length state ≡ stateBytes → ((i : ℕ) → i < stateBytes → getD state i 0 < 256)
+    → replayRefusal (stateFrom state .n) j ≢ 0 → replayCall state j .state ≡ state
+unfolding replayCall written replayed
+whole-kept state j l small z =
+    rw (ne-eqb (replayRefusal (stateFrom state .n) j) 0 z) (bytes-back state l (λ i h. small i (rw l at h)))
 
 -- ---- from an accepted start or read, whatever bytes are lent
 
@@ -119,4 +152,9 @@ boundary-theorem =
       read = λ r a lent calls.
           boundary-run (r .key) (r .arm) (begun-read r (a .accepted) .fits) (a .arm) _ _ calls (holds-read r (a .accepted) (a .last)) (rw (eq-eqb _ 0 (a .accepted))) refl
           refl;
+      start-tasks = λ s a lent ts.
+          task-run (s .key) (s .arm) (begun-start s (a .accepted) .fits) (a .arm) _ (begun (started s .state) (blank s)) ts (holds-start s (a .accepted) (a .last)) (rw (eq-eqb _ 0 (a .accepted))) refl;
+      read-tasks = λ r a lent ts.
+          task-run (r .key) (r .arm) (begun-read r (a .accepted) .fits) (a .arm) _ (begun (readFile r .state) (lentFile r)) ts (holds-read r (a .accepted) (a .last)) (rw (eq-eqb _ 0 (a .accepted))) refl;
+      whole = whole-kept;
     }

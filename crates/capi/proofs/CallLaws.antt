@@ -21,9 +21,13 @@ use Rattle.file.specs.Edits.{Edit}
 use Rattle.file.specs.States.{StateAnswer, edited}
 use Rattle.file.specs.Slips.{SealAnswer, sealed, CheckAnswer, checked}
 use Rattle.file.proofs.ShapeLaws.{cause-pos}
+use Rattle.journal.specs.declared.replaying.Replayed.{Replayed}
+use Rattle.journal.specs.Contracts as journal
+use Rattle.journal.specs.Contracts.{replayAnswer}
+use Rattle.journal.specs.Journals.{replayed}
 use Rattle.capi.specs.Bytes.{packedState, stateFrom}
-use Rattle.capi.specs.Calls.{EditCall, kept, editCall, StartCall, keptAtStart, SealCall, stamped, sealCall, CheckCall, judged, checkCall}
-use Rattle.capi.specs.Contracts.{editResult, startResult, sealResult, checkResult}
+use Rattle.capi.specs.Calls.{EditCall, kept, editCall, StartCall, keptAtStart, SealCall, stamped, sealCall, CheckCall, judged, checkCall, written, replayCall}
+use Rattle.capi.specs.Contracts.{editResult, startResult, sealResult, checkResult, replayResult}
 
 -- a number that is a cause's is not 0
 refusal : (n : ℕ) (c : Cause) → n ≡ causeNumber c → n ≡ 0 → ⊥
@@ -117,3 +121,14 @@ pub check-call : (state slip : List ℕ) (held : ℕ) {st : State} {a : CheckAns
 unfolding checkCall
 check-call state slip held es ea ex =
     ex ∙ ap (λ (b : CheckAnswer). judged b held) (ea ∙ ap (λ (t : State). checked t slip) es)
+
+-- ---- replay
+
+-- the replay of the state that was read: r is what it answered, b the bytes of its state and n its refusal
+pub replay-call : (state j : List ℕ) {st : State} {b : List ℕ} {n : ℕ} → st ≡ stateFrom state → (r : Replayed)
+    → replayAnswer r ≡ replayed st j → b ≡ packedState (r .state) → n ≡ journal.answerRefusal (r .answer)
+    → replayResult n b (r .count) (r .offset) ≡ replayCall state j
+unfolding replayCall written
+replay-call state j es r er eb en =
+    ap₂ (λ (m : ℕ) (t : List ℕ). replayResult m t (r .count) (r .offset)) en eb
+    ∙ ap written (er ∙ ap (λ (t : State). replayed t j) es)

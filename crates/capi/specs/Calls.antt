@@ -7,6 +7,7 @@ use lib.Dec.{eqb}
 use Rattle.file.specs.Edits.{Edit}
 use Rattle.file.specs.States.{StateAnswer, Start, Reading, started, readFile, edited}
 use Rattle.file.specs.Slips.{SealAnswer, sealed, CheckAnswer, checked}
+use Rattle.journal.specs.Journals.{ReplayAnswer, replayed}
 use Rattle.capi.specs.Bytes.{packedState, stateFrom}
 
 -- ---- the five edits
@@ -80,3 +81,20 @@ judged a verdict = record { refusal = a .refusal; verdict = cond (eqb (a .refusa
 -- check: the file keeper's `checked` of `stateFrom` (document 01, "Slip, seal, check")
 unfoldable pub checkCall : (state slip : List ℕ) (verdict : ℕ) → CheckCall
 checkCall state slip verdict = judged (checked (stateFrom state) slip) verdict
+
+-- ---- replay
+
+-- what replay leaves: the refusal (document 02, Q-1) or 0, the lent state, the lent count and the lent offset
+pub record ReplayCall : Type 0 where
+  pub refusal : ℕ
+  pub state : List ℕ
+  pub count : ℕ
+  pub offset : ℕ
+
+-- what a replay leaves (document 02, Q-1): its state's bytes, its count and its offset, refused or not
+unfoldable pub written : ReplayAnswer → ReplayCall
+written a = record { refusal = a .refusal; state = packedState (a .state); count = a .count; offset = a .offset }
+
+-- replay: the journal's `replayed` between `stateFrom` and `packedState` (document 02, Q-1)
+unfoldable pub replayCall : (state journal : List ℕ) → ReplayCall
+replayCall state journal = written (replayed (stateFrom state) journal)

@@ -1,7 +1,7 @@
 -- What serves contracts and laws alone: what a call leaves as one record, so that a contract is one equation.
 use mathlib.Core.List.{List}
 use Prim.Native.Nat.{ℕ}
-use Rattle.capi.specs.Calls.{EditCall, StartCall, SealCall, CheckCall}
+use Rattle.capi.specs.Calls.{EditCall, StartCall, SealCall, CheckCall, ReplayCall}
 
 -- of an edit
 abbrev pub editResult : (refusal : ℕ) (state : List ℕ) (count : ℕ) → EditCall
@@ -18,3 +18,7 @@ sealResult refusal state slip = record { refusal = refusal; state = state; slip 
 -- of check
 abbrev pub checkResult : (refusal verdict : ℕ) → CheckCall
 checkResult refusal verdict = record { refusal = refusal; verdict = verdict }
+
+-- of replay
+abbrev pub replayResult : (refusal : ℕ) (state : List ℕ) (count offset : ℕ) → ReplayCall
+replayResult refusal state count offset = record { refusal = refusal; state = state; count = count; offset = offset }

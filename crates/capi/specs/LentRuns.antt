@@ -1,15 +1,20 @@
 -- A list of calls through the boundary, each on the lent bytes that the one before it left, and what it has in common with the demands' run
--- of the same calls. The proof is `boundary-theorem` in proofs/Boundary.
+-- of the same calls; and the same of a list in which journals stand. The proof is `boundary-theorem` in proofs/Boundary.
 use mathlib.Core.Path.{_≡_}
+use mathlib.Core.Logic.{_≢_}
 use mathlib.Core.List.{List, [], _∷_, _++_}
-use Prim.Native.Nat.{ℕ, _+_}
-use Rattle.file.specs.States.{Start, Reading}
+use Prim.Native.Nat.{ℕ, _+_, _<_}
+use lib.ListN.{length, getD}
+use Rattle.file.specs.States.{Start, Reading, started, readFile}
 use Rattle.file.specs.Slips.{sealed, checked}
 use Rattle.file.specs.Calls.{Call, edit, seal, check}
-use Rattle.file.specs.Runs.{Run, fromStart, fromRead}
+use Rattle.file.specs.Machine.{blank, lent as lentFile}
+use Rattle.file.specs.Runs.{Run, begun, fromStart, fromRead}
 use Rattle.file.specs.Demands.{AcceptedStart, AcceptedRead}
-use Rattle.capi.specs.Bytes.{stateFrom}
-use Rattle.capi.specs.Calls.{EditCall, editCall, startCall, readCall, sealCall, checkCall, judged}
+use Rattle.journal.specs.Journals.{replayRefusal, replayed}
+use Rattle.journal.specs.Singly.{Task, call, replay, asCalls}
+use Rattle.capi.specs.Bytes.{stateBytes, stateFrom}
+use Rattle.capi.specs.Calls.{EditCall, editCall, startCall, readCall, sealCall, checkCall, judged, replayCall, written}
 
 -- one call: its refusal, the lent state afterwards, which a check can't write, and the count it reports, 0 where it reports none; it serves
 -- laws alone
@@ -28,29 +33,55 @@ pub record LentRun : Type 0 where
 unfoldable pub lentBegun : List ℕ → LentRun
 lentBegun state = record { state = state; refusals = []; total = 0 }
 
+-- with what one call more left; it serves laws alone
+unfoldable pub lentWith : LentRun → EditCall → LentRun
+lentWith l a = record { state = a .state; refusals = l .refusals ++ (a .refusal ∷ []); total = l .total + a .count }
+
 -- one call more, on the state that the one before it left; it serves laws alone
 unfoldable pub lentFurther : LentRun → Call → LentRun
-lentFurther l c =
-    let a = lentCall (l .state) c in
-    record { state = a .state; refusals = l .refusals ++ (a .refusal ∷ []); total = l .total + a .count }
+lentFurther l c = lentWith l (lentCall (l .state) c)
 
 -- the whole list; it serves laws alone
 unfoldable pub lentRun : LentRun → List Call → LentRun
 lentRun l [] = l
 lentRun l (c ∷ cs) = lentRun (lentFurther l c) cs
 
--- the lent bytes hold the editor's state, refusals and counts are the editor's, and so are what a seal writes and what a check finds next;
--- the boundary's own statement, in no paper
-pub record Boundary (l : LentRun) (r : Run) : Type 0 where
+-- one task: a call, or a replay, which writes state and count refused or not; it serves laws alone
+unfoldable pub lentTask : List ℕ → Task → EditCall
+lentTask state (call c) = lentCall state c
+lentTask state (replay j) =
+    let a = replayCall state j in
+    record { refusal = a .refusal; state = a .state; count = a .count }
+
+-- a list of tasks; it serves laws alone
+unfoldable pub lentTasks : LentRun → List Task → LentRun
+lentTasks l [] = l
+lentTasks l (t ∷ ts) = lentTasks (lentWith l (lentTask (l .state) t)) ts
+
+-- the lent bytes hold the editor's state of a run, the counts are the editor's, and so are what a seal writes, what a check finds and what a replay
+-- leaves next; the boundary's own statement, in no paper
+pub record Held (l : LentRun) (r : Run) : Type 0 where
   pub state : stateFrom (l .state) ≡ r .state
-  pub refusals : l .refusals ≡ r .refusals
   pub total : l .total ≡ r .total
   pub slips : (out : List ℕ) → sealCall (l .state) out .slip ≡ sealed (r .state) out .slip
   pub verdicts : (slip : List ℕ) (verdict : ℕ) → checkCall (l .state) slip verdict ≡ judged (checked (r .state) slip) verdict
+  pub replays : (j : List ℕ) → replayCall (l .state) j ≡ written (replayed (r .state) j)
 
--- so after any list of calls from an accepted start and from an accepted read, whatever bytes were lent; the boundary's own
+-- and the refusals are the editor's; the boundary's own
+pub record Boundary (l : LentRun) (r : Run) : Type 0 where
+  pub held : Held l r
+  pub refusals : l .refusals ≡ r .refusals
+
+-- so after any list of calls from an accepted start and from an accepted read, whatever bytes were lent; and after any list in which journals stand
+-- as well, of the run in which they stand as their edits. A journal that is refused as a whole leaves the lent state as it was. The boundary's own
 pub record BoundaryTheorem : Type 0 where
   pub start : (s : Start) → AcceptedStart s → (lent : List ℕ) (calls : List Call)
       → Boundary (lentRun (lentBegun (startCall s lent .state)) calls) (fromStart s calls)
   pub read : (r : Reading) → AcceptedRead r → (lent : List ℕ) (calls : List Call)
       → Boundary (lentRun (lentBegun (readCall r lent .state)) calls) (fromRead r calls)
+  pub start-tasks : (s : Start) → AcceptedStart s → (lent : List ℕ) (ts : List Task)
+      → Held (lentTasks (lentBegun (startCall s lent .state)) ts) (fromStart s (asCalls (begun (started s .state) (blank s)) ts))
+  pub read-tasks : (r : Reading) → AcceptedRead r → (lent : List ℕ) (ts : List Task)
+      → Held (lentTasks (lentBegun (readCall r lent .state)) ts) (fromRead r (asCalls (begun (readFile r .state) (lentFile r)) ts))
+  pub whole : (state j : List ℕ) → length state ≡ stateBytes → ((i : ℕ) → i < stateBytes → getD state i 0 < 256)
+      → replayRefusal (stateFrom state .n) j ≢ 0 → replayCall state j .state ≡ state

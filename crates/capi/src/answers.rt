@@ -8,6 +8,7 @@ ghost use Rattle.cipher.specs.Aes;
 ghost use Rattle.field.specs.Field;
 ghost use Rattle.gcm.specs.Gcm;
 ghost use Rattle.file.specs.Contracts.{stateAnswer};
+ghost use Rattle.journal.specs.Contracts as journal;
 ghost use Rattle.capi.specs.Calls.{kept};
 ghost use Rattle.capi.specs.Contracts.{editResult};
 
@@ -50,6 +51,16 @@ pub fn gcm_number(a: gcm::Answer) -> u64
             gcm::Cause::OutputLength => 7,
             gcm::Cause::TooLong => 2,
         },
+    }
+}
+
+// The number of replay's answer.
+pub fn journal_number(a: journal::Answer) -> u64
+    ensures { λ r. ⌜ r ≡ journal.answerRefusal a ⌝ }
+{
+    match a {
+        journal::Answer::Done => 0,
+        journal::Answer::Refused(cause) => cause.number(),
     }
 }
 

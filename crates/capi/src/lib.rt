@@ -6,10 +6,12 @@ mod packing;
 use answers::cipher_number;
 use answers::field_number;
 use answers::gcm_number;
+use answers::journal_number;
 use answers::keep;
 use file::Answer;
 use file::State;
 use file::Verdict;
+use journal::replay;
 use packing::STATE_BYTES;
 use packing::arm_of;
 use packing::decode;
@@ -22,8 +24,8 @@ ghost use Rattle.field.specs.Field.{multiplyRefusal, multiplyOutput, ghashRefus
 ghost use Rattle.gcm.specs.Gcm.{gmacRefusal, gmacOutput};
 ghost use Rattle.file.specs.Edits;
 ghost use Rattle.capi.specs.Bytes.{stateFrom};
-ghost use Rattle.capi.specs.Calls.{editCall, startCall, readCall, sealCall, checkCall};
-ghost use Rattle.capi.specs.Contracts.{editResult, startResult, sealResult, checkResult};
+ghost use Rattle.capi.specs.Calls.{editCall, startCall, readCall, sealCall, checkCall, replayCall};
+ghost use Rattle.capi.specs.Contracts.{editResult, startResult, sealResult, checkResult, replayResult};
 
 // AES-128 of one block. Refused, in this order, with 1 where key or block is not 16 bytes and with 7 where out is not.
 #[no_mangle]
@@ -228,4 +230,26 @@ pub extern "C" fn armfile_check(state: &[u8; STATE_BYTES], slip: &[u8], verdict:
             0
         }
     }
+}
+
+// Applies a journal's records to the state, in order, until one is refused, as `journal::replay` does. Refused, in this order, with 2 and with 10 as
+// a whole; then for each record with 10, 11, 12 and as its edit is. State, count and offset are written always: they are those of the records
+// before the refused one.
+#[no_mangle]
+pub extern "C" fn armfile_replay(
+    state: &mut [u8; STATE_BYTES],
+    journal: &[u8],
+    count: &mut u64,
+    offset: &mut u64,
+) -> u64
+    ensures { λ r. ⌜ replayResult r (now (state .exit)) (now (count .exit)) (now (offset .exit)) ≡ replayCall (now (state .entry)) (now (journal .entry)) ⌝ }
+{
+    let st = decode(state);
+    let replayed = replay(st, journal);
+    let after = replayed.state;
+    encode(after, state);
+    *count = replayed.count;
+    *offset = replayed.offset;
+    let answer = replayed.answer;
+    journal_number(answer)
 }

@@ -1,8 +1,9 @@
 //! The library's functions one for one, in the order and with the parameters
 //! of armfile.h, as safe functions: a slice stands for a pointer and a length,
 //! and the answer is the refusal number, or 0 for work done. A refused call
-//! leaves every lent buffer as it was. The three that read a field of a state
-//! refuse none, and answer the field.
+//! leaves every lent buffer as it was, but for a replay, which always writes
+//! state, count and offset. The three that read a field of a state refuse
+//! none, and answer the field.
 //!
 //! Each call is sound for the same reason: every pointer comes from a
 //! reference that lives through the call, with the length of what it refers
@@ -111,6 +112,13 @@ pub mod c {
             bytes: *const u8,
             bytes_len: usize,
             count: *mut u64,
+        ) -> u64;
+        pub fn armfile_replay(
+            state: *mut u8,
+            journal: *const u8,
+            journal_len: usize,
+            count: *mut u64,
+            offset: *mut u64,
         ) -> u64;
         pub fn armfile_seal(state: *mut u8, slip: *mut u8, slip_len: usize) -> u64;
         pub fn armfile_check(
@@ -282,6 +290,20 @@ pub fn drop_front(state: &mut StateBytes, bytes: &[u8], count: &mut u64) -> u64 
 pub fn cut_tail(state: &mut StateBytes, bytes: &[u8], count: &mut u64) -> u64 {
     // SAFETY: as said at the module's head.
     unsafe { c::armfile_cut_tail(state.as_mut_ptr(), pointer(bytes), bytes.len(), count) }
+}
+
+/// `armfile_replay`: [`crate::State::replay`].
+pub fn replay(state: &mut StateBytes, journal: &[u8], count: &mut u64, offset: &mut u64) -> u64 {
+    // SAFETY: as said at the module's head.
+    unsafe {
+        c::armfile_replay(
+            state.as_mut_ptr(),
+            pointer(journal),
+            journal.len(),
+            count,
+            offset,
+        )
+    }
 }
 
 /// `armfile_seal`: [`crate::State::seal`].

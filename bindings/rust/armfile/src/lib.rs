@@ -24,9 +24,11 @@
 //! ```
 //!
 //! Every call either does its work or is refused with a [`Refusal`], and a
-//! refused call leaves the state and every lent buffer as they were. The
-//! library proves what it answers; what this wrapper adds is that lengths are
-//! those of the slices.
+//! refused call leaves the state and every lent buffer as they were. The one
+//! exception is [`State::replay`], which runs a journal of edits up to the
+//! first that is refused and keeps what those before it did. The library
+//! proves what it answers; what this wrapper adds is that lengths are those of
+//! the slices.
 //!
 //! The wrapper needs no allocator and no operating system: it uses `core`
 //! alone, and the library beneath it needs no other.
@@ -59,6 +61,9 @@ pub const BLOCK_BYTES: usize = 16;
 /// The largest byte length of a file, of A, of C and of a nonce: 2^61 - 1.
 pub const MAX_BYTES: u64 = (1 << 61) - 1;
 
+/// The largest byte length of a journal: 2^40.
+pub const MAX_JOURNAL_BYTES: u64 = 1 << 40;
+
 /// Why a call was refused.
 #[derive(Clone, Copy, Debug, PartialEq, Eq, Hash)]
 pub enum Refusal {
@@ -80,13 +85,19 @@ pub enum Refusal {
     SlipVersion,
     /// 9: empty nonce.
     EmptyNonce,
+    /// 10: journal over 2^40 bytes, or one that ends inside a record.
+    JournalLength,
+    /// 11: record's kind 0, 6 or 7.
+    RecordKind,
+    /// 12: record's place not zero, and it is no change.
+    RecordPlace,
     /// A number that this wrapper doesn't know, which only a library of
     /// another version answers.
     Unknown(u64),
 }
 
 /// The causes with their numbers and what is wrong.
-const CAUSES: [(Refusal, u64, &str); 9] = [
+const CAUSES: [(Refusal, u64, &str); 12] = [
     (Refusal::KeyOrBlockLength, 1, "key or block not 16 bytes"),
     (Refusal::TooLong, 2, "more than 2^61 - 1 bytes"),
     (Refusal::OutOfFile, 3, "bytes outside the file"),
@@ -96,6 +107,13 @@ const CAUSES: [(Refusal, u64, &str); 9] = [
     (Refusal::OutputLength, 7, "buffer of the wrong length"),
     (Refusal::SlipVersion, 8, "slip version not 1"),
     (Refusal::EmptyNonce, 9, "empty nonce"),
+    (Refusal::JournalLength, 10, "journal too long or cut short"),
+    (Refusal::RecordKind, 11, "record of no known kind"),
+    (
+        Refusal::RecordPlace,
+        12,
+        "place in a record that is no change",
+    ),
 ];
 
 impl Refusal {
@@ -126,6 +144,20 @@ impl fmt::Display for Refusal {
 }
 
 impl core::error::Error for Refusal {}
+
+/// What a replay came to: [`State::replay`].
+#[must_use = "a replay may have stopped at a refused record"]
+#[derive(Clone, Copy, Debug, PartialEq, Eq)]
+pub struct Replayed {
+    /// The multiplications of all the records that were applied.
+    pub count: u64,
+    /// How many bytes of the journal those records are: where the refused one
+    /// begins, or the journal's length where none was refused.
+    pub offset: u64,
+    /// Why the record at `offset` was refused, or, with `offset` 0, the state
+    /// or the whole journal; `None` where all was applied.
+    pub refusal: Option<Refusal>,
+}
 
 /// AES-128 of a block under a key, FIPS 197, written to `out`. All three are
 /// 16 bytes. Refusals, in this order: 1, 7.
@@ -259,6 +291,55 @@ impl State {
         Ok(count)
     }
 
+    /// Applies a journal's records in turn, each as the edit of its kind, and
+    /// stops at the first that is refused. Unlike every other call it keeps
+    /// what was done until then: the state is that of the records before the
+    /// refused one.
+    ///
+    /// A record is a head of 12 bytes, packed most significant bit first, and
+    /// the edit's bytes: kind (3 bits: 1 change, 2 append, 3 prepend, 4 drop
+    /// front, 5 cut tail), place p (61 bits, 0 but in a change), length l (32
+    /// bits), then l bytes, or for a change l old and l new.
+    ///
+    /// Refusals, in this order: 10 where the journal passes 2^40 bytes; then of
+    /// each record 10 where the journal ends inside it, 11 where its kind is
+    /// none of the five, 12 where p is not 0 and it is no change, and then
+    /// those of the edit.
+    ///
+    /// A caller who wants all or nothing keeps a copy of the bytes. To go back
+    /// to it repeats no seal number, since no record seals:
+    ///
+    /// ```
+    /// use armfile::{Refusal, State};
+    ///
+    /// # fn main() -> Result<(), armfile::Refusal> {
+    /// let mut journal = [0; 12 + 5 + 12];
+    /// journal[0] = 2 << 5; // an append
+    /// journal[11] = 5; // of five bytes
+    /// journal[12..17].copy_from_slice(b"GRIP\n");
+    /// journal[17] = 7 << 5; // a record of no known kind
+    ///
+    /// let mut state = State::start(&[7; 16], 3, 0, 0)?;
+    /// let before = *state.as_bytes(); // it holds the key, and is the caller's to wipe
+    /// let replayed = state.replay(&journal);
+    /// assert_eq!((replayed.count, replayed.offset), (3, 17));
+    /// assert_eq!(replayed.refusal, Some(Refusal::RecordKind));
+    /// assert_eq!(state.length(), 5); // the append was applied
+    /// state = State::from_bytes(before);
+    /// assert_eq!(state.length(), 0);
+    /// # Ok(())
+    /// # }
+    /// ```
+    pub fn replay(&mut self, journal: &[u8]) -> Replayed {
+        let (mut count, mut offset) = (0, 0);
+        let answer = ffi::replay(&mut self.bytes, journal, &mut count, &mut offset);
+        Replayed {
+            count,
+            offset,
+            refusal: Refusal::of(answer).err(),
+        }
+    }
+
     /// Seals the file: the last used number rises by one, and the 36 bytes of
     /// `slip` become the slip with that number. Store the state before the
     /// slip leaves the controller, or a number may be used twice. Refusals, in
@@ -308,7 +389,7 @@ mod tests {
             let back = Refusal::of(number).map_or_else(Refusal::number, |()| 0);
             assert_eq!(back, number);
         }
-        assert_eq!(Refusal::of(10), Err(Refusal::Unknown(10)));
+        assert_eq!(Refusal::of(13), Err(Refusal::Unknown(13)));
         let shown = Refusal::BrokenBlock.to_string();
         assert_eq!(shown, "refused 5: length no multiple of 16");
     }
@@ -331,6 +412,31 @@ mod tests {
         assert_eq!(state.seal(&mut [0; 35]), Err(Refusal::OutputLength));
         assert_eq!(state.seal(&mut [0; 36]), Err(Refusal::NumbersUsed));
         assert_eq!(state.check(&[0; 36]), Err(Refusal::SlipVersion));
+        let of = |record: &[u8]| State::start(&key, 2, 3, 40).unwrap().replay(record).refusal;
+        assert_eq!(of(&[0; 11]), Some(Refusal::JournalLength));
+        assert_eq!(of(&[0; 12]), Some(Refusal::RecordKind));
+        assert_eq!(
+            of(b"\x40\0\0\0\0\0\0\x01\0\0\0\0"),
+            Some(Refusal::RecordPlace)
+        );
+    }
+
+    /// A replay keeps what was done before the refused record.
+    #[test]
+    fn a_replay_stops_at_a_refused_record() {
+        let [mut replayed, mut single] =
+            [(); 2].map(|()| State::start(&[1; 16], 2, 3, 40).unwrap());
+        let append = b"\x40\0\0\0\0\0\0\0\0\0\0\x03abc";
+        let change = b"\x20\0\0\0\0\0\0\x28\0\0\0\x02abAB";
+        let prepend = b"\x60\0\0\0\0\0\0\0\0\0\0\x01a";
+        let journal = [&append[..], change, prepend, append].concat();
+        let expected = Replayed {
+            count: single.append(b"abc").unwrap() + single.change(40, b"ab", b"AB").unwrap(),
+            offset: (append.len() + change.len()) as u64,
+            refusal: single.prepend(b"a").err(),
+        };
+        assert_eq!(replayed.replay(&journal), expected);
+        assert_eq!(replayed.as_bytes(), single.as_bytes());
     }
 
     #[test]
@@ -365,6 +471,12 @@ mod tests {
         assert_eq!(state.prepend(empty), Ok(0));
         assert_eq!(state.drop_front(empty), Ok(0));
         assert_eq!(state.cut_tail(empty), Ok(0));
+        let nothing = Replayed {
+            count: 0,
+            offset: 0,
+            refusal: None,
+        };
+        assert_eq!(state.replay(empty), nothing);
         assert_eq!(state.seal(&mut []), Err(Refusal::OutputLength));
         assert_eq!(state.check(empty), Err(Refusal::OutputLength));
     }
