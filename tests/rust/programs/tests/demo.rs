@@ -9,9 +9,16 @@ fn hex(bytes: &[u8]) -> String {
 }
 
 fn step(text: &mut String, name: &str, machine: &Machine, count: u64) {
+    replay(text, name, machine, count, "");
+}
+
+/// A step that also says where a replay stopped, or nothing.
+fn replay(text: &mut String, name: &str, machine: &Machine, count: u64, stop: &str) {
     let sum = hex(&machine.sum());
     let n = machine.n();
-    text.push_str(&format!("{name}: length {n}, sum {sum}, count {count}\n"));
+    text.push_str(&format!(
+        "{name}: length {n}, sum {sum}, count {count}{stop}\n"
+    ));
 }
 
 #[test]
@@ -28,6 +35,26 @@ fn the_demo_prints_what_the_machine_says() {
     step(&mut text, "prepend 16 bytes", &machine, count);
     let count = machine.cut_tail(b"er A").unwrap();
     step(&mut text, "cut 4 bytes", &machine, count);
+    // Of the journal cut short the second record is refused; it begins behind
+    // a head of 12 bytes, 3 old ones and 3 new ones.
+    let mut cut = machine.clone();
+    let first = cut.change(31, b"new", b"now").unwrap();
+    replay(
+        &mut text,
+        "replay a journal cut short",
+        &cut,
+        first,
+        ", refused 10 at 18",
+    );
+    machine = cut;
+    let count = first + machine.append(b"er B").unwrap();
+    replay(
+        &mut text,
+        "replay the whole journal",
+        &machine,
+        count,
+        ", done at 34",
+    );
     let mut slip = [0; 36];
     machine.seal(&mut slip).unwrap();
     text.push_str(&format!("seal: slip {}\n", hex(&slip)));
