@@ -4,9 +4,10 @@
  * memcheck's message say (ct move shows it): it chooses between two values that are both at hand, takes the same time for either, and what
  * it chose is followed on as undefined.
  *
- * Secret: keys, H, I, S, blocks, and the bytes of files. Public: lengths, places, arm and seal numbers, nonces, slips, and every answer,
- * count and verdict. Answers and counts must come out defined by themselves. A tag is published by the seal that makes it, and is
- * declared public after that call, not before.
+ * Secret: keys, H, I, S, blocks, and the bytes of files, in a journal too. Public: lengths, places, arm and seal numbers, nonces, slips,
+ * the heads of a journal's records, whose kind, p and l decide what is done, and every answer, count, offset and verdict. Answers, counts
+ * and offsets must come out defined by themselves. A tag is published by the seal that makes it, and is declared public after that call,
+ * not before.
  *
  * The verdict is public and made inside check, so check may jump on it, and on nothing less: each check that comes to compare tags makes
  * at most one report, the jump, and its verdict then comes out defined, settled by that jump; or it makes no report, and its verdict
@@ -14,7 +15,7 @@
  *
  * Each call is made on plain data too, and must give the same bytes.
  *
- * ct field    multiply, GHASH, a state's fields and the five edits, which use no cipher
+ * ct field    multiply, GHASH, a state's fields, the five edits and replay, which use no cipher
  * ct cipher   encrypt, GMAC, start, read and seal
  * ct check    check
  * ct branch, ct index    deliberate faults, which must be reported
@@ -31,6 +32,8 @@
 #define SLIP ARMFILE_SLIP_BYTES
 #define SLIP_HEAD 20 /* version, length, arm and number; the tag follows */
 #define MOST 100
+#define HEAD 12 /* a record's: kind, p and l */
+#define RECORDS 6
 
 static const size_t lengths[] = {0, 1, 15, 16, 17, 32, 33, 64, MOST};
 #define LENGTHS (sizeof lengths / sizeof lengths[0])
@@ -156,6 +159,17 @@ static uint64_t edit(int kind, uint8_t *state, uint64_t p, const uint8_t *old, c
     }
 }
 
+/* What an edit or a replay leaves: of state and count only key, H, I and S are secret, and all is as on plain data. */
+static void must_be_moved(uint8_t *state, const uint8_t *plain, uint64_t count, uint64_t plain_count) {
+    must_be_public(&count, sizeof count, "a count depends on a secret");
+    must_be_public(state + SECRET_STATE, STATE - SECRET_STATE, "a length or number depends on a secret");
+    must_be_secret(state + 48, 16, "no secret in a sum");
+    reveal(state, STATE);
+    must_be_same(state, plain, STATE, "another state");
+    if (count != plain_count)
+        fail("another count");
+}
+
 static void one_edit(int kind, uint64_t n, uint64_t p, size_t l) {
     uint8_t state[STATE], plain[STATE], old[MOST], new[MOST];
     uint64_t count = 0, plain_count = 0;
@@ -169,13 +183,7 @@ static void one_edit(int kind, uint64_t n, uint64_t p, size_t l) {
     hide(old, MOST);
     hide(new, MOST);
     answered(edit(kind, state, p, old, new, l, &count), expected);
-    must_be_public(&count, sizeof count, "a count depends on a secret");
-    must_be_public(state + SECRET_STATE, STATE - SECRET_STATE, "a length or number depends on a secret");
-    must_be_secret(state + 48, 16, "no secret in a sum");
-    reveal(state, STATE);
-    must_be_same(state, plain, STATE, "another state");
-    if (count != plain_count)
-        fail("another count");
+    must_be_moved(state, plain, count, plain_count);
 }
 
 /* Accepted and refused edits, of short files, of a long one and of one past the limit. */
@@ -188,6 +196,61 @@ static void on_edits(void) {
             one_edit(0, files[f], 0, lengths[i]);
             one_edit(0, files[f], 17, lengths[i]);
             one_edit(0, files[f], files[f], lengths[i]);
+        }
+}
+
+/* A journal, and where its records begin. */
+struct journal {
+    uint8_t bytes[RECORDS * (HEAD + 2 * (MOST + 15))];
+    size_t length, records, first[RECORDS + 1];
+};
+
+static void add_record(struct journal *journal, uint64_t kind, uint64_t p, size_t l) {
+    uint8_t *record = journal->bytes + journal->length;
+    size_t body = kind == 1 ? 2 * l : l;
+    big_endian(record, kind << 61 | p, 8);
+    big_endian(record + 8, l, 4);
+    fill(record + HEAD, body);
+    journal->length += HEAD + body;
+    journal->first[++journal->records] = journal->length;
+}
+
+/* A replay of the journal's first bytes. The heads stay public, and what stands between them is hidden. */
+static void one_replay(uint64_t n, struct journal journal, size_t length) {
+    uint8_t state[STATE], plain[STATE];
+    uint64_t count, offset, plain_count, plain_offset;
+    any_state(state, n);
+    memcpy(plain, state, STATE);
+    uint64_t expected = armfile_replay(plain, journal.bytes, length, &plain_count, &plain_offset);
+    calls++;
+    hide(state, SECRET_STATE);
+    for (size_t i = 0; i < journal.records; i++)
+        hide(journal.bytes + journal.first[i] + HEAD, journal.first[i + 1] - journal.first[i] - HEAD);
+    answered(armfile_replay(state, journal.bytes, length, &count, &offset), expected);
+    must_be_public(&offset, sizeof offset, "an offset depends on a secret");
+    if (offset != plain_offset)
+        fail("another offset");
+    must_be_moved(state, plain, count, plain_count);
+}
+
+/* Records of all kinds, each kind first in some journal; then one that is refused, for its kind, its place or its length, or is cut short. */
+static void on_replay(void) {
+    const uint64_t files[] = {0, 40, 1000, ARMFILE_MAX_BYTES - 20, ARMFILE_MAX_BYTES + 1};
+    const struct {
+        uint64_t kind, p;
+        size_t missing;
+    } last[] = {{7, 0, 0}, {2, 9, 0}, {3, 0, 0}, {5, 0, 1}, {1, 0, 11}};
+    for (size_t f = 0; f < sizeof files / sizeof files[0]; f++)
+        for (size_t i = 0; i < LENGTHS; i++) {
+            struct journal journal = {.length = 0};
+            for (uint64_t k = 0; k < 5; k++) {
+                uint64_t kind = 1 + (k + f + i) % 5;
+                size_t whole = (lengths[i] + 15) / 16 * 16;
+                add_record(&journal, kind, kind == 1 ? 17 : 0, kind == 3 || kind == 4 ? whole : lengths[i]);
+            }
+            one_replay(files[f], journal, journal.length);
+            add_record(&journal, last[i % 5].kind, last[i % 5].p, 5);
+            one_replay(files[f], journal, journal.length - last[i % 5].missing);
         }
 }
 
@@ -339,6 +402,7 @@ int main(int argc, char **argv) {
         on_ghash();
         on_fields();
         on_edits();
+        on_replay();
     } else if (strcmp(part, "cipher") == 0) {
         on_blocks(armfile_encrypt);
         on_gmac();

@@ -15,11 +15,14 @@
 #define ROOM 1024
 #define MOST 4095
 #define WHOLE(n) (((n) + 15) / 16 * 16)
+#define HEAD 12 /* a record's head: kind and place in 8 bytes, l in 4 */
 
 static volatile uint8_t *stack;
 static uintptr_t caller;
 static uint8_t key[16], state[ARMFILE_STATE_BYTES], slip[ARMFILE_SLIP_BYTES], file[MOST + 16], out[16], verdict;
-static uint64_t count;
+static uint8_t journal[5 * HEAD + 6 * (MOST + 16)];
+static size_t journal_len;
+static uint64_t count, offset;
 
 /* A call at a length, from a frame so large that the paint, which ends below the frame of the code that paints, covers its end. The room
  * is used after the call too, so that the frame is there as long as the call. */
@@ -47,6 +50,7 @@ CALL(append, armfile_append(state, file, n, &count))
 CALL(prepend, armfile_prepend(state, file, WHOLE(n), &count))
 CALL(drop_front, armfile_drop_front(state, file, WHOLE(n), &count))
 CALL(cut_tail, armfile_cut_tail(state, file, n, &count))
+CALL(replay, armfile_replay(state, journal, journal_len, &count, &offset))
 CALL(seal, armfile_seal(state, slip, sizeof slip))
 CALL(check, armfile_check(state, slip, sizeof slip, &verdict))
 
@@ -56,7 +60,7 @@ static const struct {
 } calls[] = {
 	{ "encrypt", encrypt }, { "multiply", multiply }, { "ghash", ghash }, { "gmac", gmac }, { "start", start },
 	{ "read", read_file }, { "length", length }, { "arm", arm }, { "last", last }, { "change", change }, { "append", append }, { "prepend", prepend },
-	{ "drop_front", drop_front }, { "cut_tail", cut_tail }, { "seal", seal }, { "check", check },
+	{ "drop_front", drop_front }, { "cut_tail", cut_tail }, { "replay", replay }, { "seal", seal }, { "check", check },
 };
 static const size_t shorter[] = { 0, 1, 17, 100 };
 
@@ -64,6 +68,26 @@ static void stop(const char *name, const char *what)
 {
 	fprintf(stderr, "error: stack: %s %s\n", name, what);
 	exit(1);
+}
+
+static void big_endian(uint8_t *bytes, uint64_t number, size_t width)
+{
+	for (size_t i = 0; i < width; i++)
+		bytes[i] = (uint8_t)(number >> (8 * (width - 1 - i)));
+}
+
+/* A journal of one record of each kind, 1 to 5, at this length. A change, 1, has l bytes twice; the l of prepend, 3, and drop_front, 4, is
+ * made whole. What the bytes are does not matter. */
+static void write_journal(size_t n)
+{
+	journal_len = 0;
+	for (uint64_t kind = 1; kind <= 5; kind++) {
+		size_t l = kind == 3 || kind == 4 ? WHOLE(n) : n;
+
+		big_endian(journal + journal_len, kind << 61, 8);
+		big_endian(journal + journal_len + 8, l, 4);
+		journal_len += HEAD + (kind == 1 ? 2 * l : l);
+	}
 }
 
 /* What a call at a length takes on this paint, with the state of a file of so many times 2^40 bytes and a slip of it. */
@@ -74,6 +98,7 @@ static size_t on_paint(const char *name, uint64_t (*volatile call)(size_t), size
 
 	if (armfile_start(key, 16, 7, 0, (uint64_t)n << 40, state) != 0 || armfile_seal(state, slip, sizeof slip) != 0)
 		stop(name, "has no state and slip to be called on");
+	write_journal(n);
 	for (i = 0; low + i < end; i++)
 		stack[i] = paint;
 	if (call(n) != 0)

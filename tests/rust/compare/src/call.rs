@@ -5,6 +5,7 @@ use std::fmt;
 use std::hint::black_box;
 
 use armfile::{ffi, Refusal, StateBytes, STATE_BYTES};
+use reference::journal::Edit;
 use reference::{calls, State};
 
 use crate::guarded::Guarded;
@@ -34,11 +35,19 @@ macro_rules! made {
             Call::Prepend { bytes } => $held.prepend(bytes).map(|c| $after.count = c),
             Call::DropFront { bytes } => $held.drop_front(bytes).map(|c| $after.count = c),
             Call::CutTail { bytes } => $held.cut_tail(bytes).map(|c| $after.count = c),
+            Call::Replay { journal } => {
+                let replayed = $held.replay(journal);
+                ($after.count, $after.offset) = (replayed.count, replayed.offset);
+                replayed.refusal.map_or(Ok(()), Err)
+            }
             Call::Seal => $held.seal(out),
             Call::Check { slip } => $held.check(slip).map(|g| $after.verdict = g.into()),
         }
     }};
 }
+
+/// A count or an offset that no call has written yet.
+pub const UNWRITTEN: u64 = 0xeeee_eeee_eeee_eeee;
 
 /// How many bytes of an input the report of a failing case shows.
 const SHOWN: usize = 1_100;
@@ -93,6 +102,9 @@ pub enum Call {
     CutTail {
         bytes: Vec<u8>,
     },
+    Replay {
+        journal: Vec<u8>,
+    },
     Seal,
     Check {
         slip: Vec<u8>,
@@ -100,13 +112,14 @@ pub enum Call {
 }
 
 /// All that calls are lent for writing: the state, the output or slip, the
-/// count and the verdict. A call is lent some of them, and must leave the
-/// others.
+/// count, the offset and the verdict. A call is lent some of them, and must
+/// leave the others.
 #[derive(Clone, PartialEq, Eq)]
 pub struct Lent {
     pub state: StateBytes,
     pub out: Vec<u8>,
     pub count: u64,
+    pub offset: u64,
     pub verdict: u8,
 }
 
@@ -159,8 +172,50 @@ impl Call {
             Call::Prepend { bytes } => ("prepend", vec![("bytes", bytes)], vec![]),
             Call::DropFront { bytes } => ("drop_front", vec![("bytes", bytes)], vec![]),
             Call::CutTail { bytes } => ("cut_tail", vec![("bytes", bytes)], vec![]),
+            Call::Replay { journal } => ("replay", vec![("journal", journal)], vec![]),
             Call::Seal => ("seal", vec![], vec![]),
             Call::Check { slip } => ("check", vec![("slip", slip)], vec![]),
+        }
+    }
+
+    /// The record of a journal that holds this edit.
+    pub fn record(&self) -> Vec<u8> {
+        let edit = match self.clone() {
+            Call::Change { p, old, new } => Edit::Change { p, old, new },
+            Call::Append { bytes } => Edit::Append(bytes),
+            Call::Prepend { bytes } => Edit::Prepend(bytes),
+            Call::DropFront { bytes } => Edit::DropFront(bytes),
+            Call::CutTail { bytes } => Edit::CutTail(bytes),
+            _ => panic!("{self} is no edit"),
+        };
+        edit.pack()
+    }
+
+    /// The library's answer to the call, with its inputs by their order in
+    /// `parts`.
+    fn answered<'a>(
+        &self,
+        input: impl Fn(usize) -> &'a [u8],
+        state: &mut StateBytes,
+        out: &mut [u8],
+        [count, offset]: [&mut u64; 2],
+        verdict: &mut u8,
+    ) -> u64 {
+        match self {
+            Call::Encrypt { .. } => ffi::encrypt(input(0), input(1), out),
+            Call::Multiply { .. } => ffi::multiply(input(0), input(1), out),
+            Call::Ghash { .. } => ffi::ghash(input(0), input(1), input(2), out),
+            Call::Gmac { .. } => ffi::gmac(input(0), input(1), input(2), out),
+            Call::Start { arm, last, n, .. } => ffi::start(input(0), *arm, *last, *n, state),
+            Call::Read { arm, last, .. } => ffi::read(input(0), *arm, *last, input(1), state),
+            Call::Change { p, .. } => ffi::change(state, *p, input(0), input(1), count),
+            Call::Append { .. } => ffi::append(state, input(0), count),
+            Call::Prepend { .. } => ffi::prepend(state, input(0), count),
+            Call::DropFront { .. } => ffi::drop_front(state, input(0), count),
+            Call::CutTail { .. } => ffi::cut_tail(state, input(0), count),
+            Call::Replay { .. } => ffi::replay(state, input(0), count, offset),
+            Call::Seal => ffi::seal(state, out),
+            Call::Check { .. } => ffi::check(state, input(0), verdict),
         }
     }
 
@@ -176,38 +231,27 @@ impl Call {
         let mut state = Guarded::new("state", &before.state, lead);
         let mut out = Guarded::new("out", &before.out, (lead + 3) % 16);
         let mut verdict = Guarded::new("verdict", &[before.verdict], lead);
-        let mut counts = [CANARY, before.count, CANARY];
+        let mut numbers = [CANARY, before.count, CANARY, before.offset, CANARY];
 
         let input = |i: usize| lent_inputs[i].bytes();
-        let lent: &mut StateBytes = state.bytes_mut().try_into().expect("84 bytes");
-        let count = &mut counts[1];
-        let answer = match self {
-            Call::Encrypt { .. } => ffi::encrypt(input(0), input(1), out.bytes_mut()),
-            Call::Multiply { .. } => ffi::multiply(input(0), input(1), out.bytes_mut()),
-            Call::Ghash { .. } => ffi::ghash(input(0), input(1), input(2), out.bytes_mut()),
-            Call::Gmac { .. } => ffi::gmac(input(0), input(1), input(2), out.bytes_mut()),
-            Call::Start { arm, last, n, .. } => ffi::start(input(0), *arm, *last, *n, lent),
-            Call::Read { arm, last, .. } => ffi::read(input(0), *arm, *last, input(1), lent),
-            Call::Change { p, .. } => ffi::change(lent, *p, input(0), input(1), count),
-            Call::Append { .. } => ffi::append(lent, input(0), count),
-            Call::Prepend { .. } => ffi::prepend(lent, input(0), count),
-            Call::DropFront { .. } => ffi::drop_front(lent, input(0), count),
-            Call::CutTail { .. } => ffi::cut_tail(lent, input(0), count),
-            Call::Seal => ffi::seal(lent, out.bytes_mut()),
-            Call::Check { .. } => ffi::check(&*lent, input(0), &mut verdict.bytes_mut()[0]),
-        };
+        let lent = state.bytes_mut().try_into().expect("84 bytes");
+        let [_, count, _, offset, _] = &mut numbers;
+        let numbers_lent = [count, offset];
+        let written = &mut verdict.bytes_mut()[0];
+        let answer = self.answered(input, lent, out.bytes_mut(), numbers_lent, written);
 
         for (guarded, (_, bytes)) in lent_inputs.iter_mut().zip(&inputs) {
             guarded.unaltered(bytes)?;
         }
-        let counts = black_box(counts);
-        if counts[0] != CANARY || counts[2] != CANARY {
-            return Err("wrote outside 'count'".into());
+        let [first, count, second, offset, third] = black_box(numbers);
+        if [first, second, third] != [CANARY; 3] {
+            return Err("wrote outside 'count' and 'offset'".into());
         }
         let after = Lent {
             state: state.after()?.try_into().expect("84 bytes"),
             out: out.after()?.to_vec(),
-            count: counts[1],
+            count,
+            offset,
             verdict: verdict.after()?[0],
         };
         Ok((answer, after))
@@ -223,15 +267,15 @@ impl Call {
     }
 
     /// The call by the second implementation. That a refused call alters
-    /// nothing is said here once more.
+    /// nothing, but for a replay, is said here once more.
     pub fn by_reference(&self, before: &Lent) -> Outcome {
         let mut after = before.clone();
         let mut held = State::from_state_bytes(&before.state);
         let answer = made!(self, calls, State, held, after);
         after.state = held.state_bytes();
         match answer {
-            Ok(()) => (0, after),
-            Err(number) => (number, before.clone()),
+            Err(number) if !matches!(self, Call::Replay { .. }) => (number, before.clone()),
+            _ => (answer.err().unwrap_or(0), after),
         }
     }
 }
@@ -258,7 +302,8 @@ impl Lent {
         Lent {
             state: [0xee; STATE_BYTES],
             out: Vec::new(),
-            count: 0xeeee_eeee_eeee_eeee,
+            count: UNWRITTEN,
+            offset: UNWRITTEN,
             verdict: 0xee,
         }
     }
@@ -278,10 +323,10 @@ impl Default for Lent {
 impl fmt::Display for Lent {
     fn fmt(&self, f: &mut fmt::Formatter) -> fmt::Result {
         let (state, out) = (hex(&self.state), hex(&self.out));
-        let (count, verdict) = (self.count, self.verdict);
+        let (count, offset, verdict) = (self.count, self.offset, self.verdict);
         write!(
             f,
-            "state {state}, out '{out}', count {count}, verdict {verdict}"
+            "state {state}, out '{out}', count {count}, offset {offset}, verdict {verdict}"
         )
     }
 }

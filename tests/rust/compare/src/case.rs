@@ -15,9 +15,9 @@ use crate::say;
 /// A part of the comparison: its name, how many cases it has, and a case.
 pub type Part = (&'static str, u64, fn(&mut Case));
 
-/// How many calls were answered by each number, from 0 to 9.
+/// How many calls were answered by each number, from 0 to 12.
 #[derive(Clone, Copy, Default)]
-pub struct Tally([u64; 10]);
+pub struct Tally([u64; 13]);
 
 impl Tally {
     fn calls(&self) -> u64 {
@@ -152,7 +152,7 @@ pub fn run(parts: &[Part], least: u64) {
         total.add(tally);
     }
     let (calls, seconds) = (total.calls(), begin.elapsed().as_secs_f64());
-    say(&format!("calls by their answers, 0 to 9: {:?}", total.0));
+    say(&format!("calls by their answers, 0 to 12: {:?}", total.0));
     say(&format!(
         "{calls} calls compared with the second implementation, in {seconds:.1} s"
     ));

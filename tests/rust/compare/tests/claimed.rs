@@ -9,8 +9,11 @@
 use std::sync::OnceLock;
 
 use armfile::ffi::c;
-use armfile::{MAX_BYTES, SLIP_BYTES};
+use armfile::{MAX_BYTES, MAX_JOURNAL_BYTES, SLIP_BYTES};
 use reference::calls::{block_refusal, ghash_refusal, gmac_refusal};
+use reference::journal::{
+    replay_refusal, Edit, Head, APPEND, CHANGE, CUT_TAIL, DROP_FRONT, PREPEND,
+};
 use reference::refusal::{
     refuse, too_long, whole_sum, BAD_BUFFER, NOT_SIXTEEN, NOT_WHOLE, OUTSIDE, TOO_LONG, UNEQUAL,
     USED_UP,
@@ -67,28 +70,58 @@ mod system {
             file: c_int,
             offset: i64,
         ) -> *mut c_void;
+        pub fn mprotect(place: *mut c_void, length: usize, protection: c_int) -> c_int;
         pub fn fork() -> c_int;
         pub fn waitpid(process: c_int, status: *mut c_int, options: c_int) -> c_int;
         pub fn _exit(status: c_int) -> !;
     }
 
     pub const PROT_NONE: c_int = 0;
+    pub const PROT_READ_WRITE: c_int = 3;
     pub const MAP_PRIVATE_ANONYMOUS: c_int = 0x22;
     pub const SIGSEGV: c_int = 11;
 }
 
+/// The bytes of a page.
+const PAGE: usize = 4096;
+
+/// Pages that may be neither read nor written.
+fn pages(count: usize) -> *mut u8 {
+    let (flags, none) = (system::MAP_PRIVATE_ANONYMOUS, system::PROT_NONE);
+    // SAFETY: a new mapping takes nothing away.
+    let pages = unsafe { system::mmap(std::ptr::null_mut(), count * PAGE, none, flags, -1, 0) };
+    assert_ne!(pages as isize, -1, "no page");
+    pages.cast()
+}
+
 /// A page that may be neither read nor written.
 fn forbidden() -> *mut u8 {
-    static PAGE: OnceLock<usize> = OnceLock::new();
-    let page = PAGE.get_or_init(|| {
-        let flags = system::MAP_PRIVATE_ANONYMOUS;
-        // SAFETY: a new mapping takes nothing away.
-        let page =
-            unsafe { system::mmap(std::ptr::null_mut(), 4096, system::PROT_NONE, flags, -1, 0) };
-        assert_ne!(page as isize, -1, "no page");
-        page as usize
-    });
-    *page as *mut u8
+    static FORBIDDEN: OnceLock<usize> = OnceLock::new();
+    *FORBIDDEN.get_or_init(|| pages(1) as usize) as *mut u8
+}
+
+/// A page that may be written, and behind it one that may not even be read.
+struct Edge(*mut u8);
+
+impl Edge {
+    fn new() -> Edge {
+        let first = pages(2);
+        // SAFETY: the page is mapped, and nothing is on it.
+        let denied = unsafe { system::mprotect(first.cast(), PAGE, system::PROT_READ_WRITE) };
+        assert_eq!(denied, 0, "no page to write");
+        Edge(first)
+    }
+
+    /// Puts bytes at the end of the first page, so that what is claimed to
+    /// follow them is on the second.
+    fn put(&self, bytes: &[u8]) -> *const u8 {
+        // SAFETY: they are fewer than the page holds.
+        unsafe {
+            let place = self.0.add(PAGE - bytes.len());
+            place.copy_from_nonoverlapping(bytes.as_ptr(), bytes.len());
+            place
+        }
+    }
 }
 
 /// An input of a length.
@@ -105,6 +138,7 @@ struct Lent {
     state: [u8; 84],
     out: [u8; TRUE],
     count: u64,
+    offset: u64,
     verdict: u8,
 }
 
@@ -120,6 +154,7 @@ impl Lent {
             state: state.state_bytes(),
             out: [0xee; TRUE],
             count: 0xeeee,
+            offset: 0xeeee,
             verdict: 0xee,
         }
     }
@@ -141,6 +176,18 @@ fn expect(
     expected: Result<(), u64>,
     claimed: bool,
     lent: &Lent,
+    call: impl FnMut(&mut Lent) -> u64,
+) {
+    expect_left(name, expected, claimed, [lent, lent], call);
+}
+
+/// So does this, where a refused call turns what it is lent into something
+/// else.
+fn expect_left(
+    name: &str,
+    expected: Result<(), u64>,
+    claimed: bool,
+    [lent, left]: [&Lent; 2],
     mut call: impl FnMut(&mut Lent) -> u64,
 ) {
     let mut after = lent.clone();
@@ -149,7 +196,7 @@ fn expect(
             let touched = ends_by_the_page(|| call(&mut after));
             assert!(!touched, "{name} touches what it must refuse");
             assert_eq!(call(&mut after), number, "{name}");
-            assert_eq!(&after, lent, "{name}, refused, alters what it is lent");
+            assert_eq!(&after, left, "what {name}, refused, leaves");
         }
         Ok(()) if claimed => assert!(
             ends_by_the_page(|| call(&mut after)),
@@ -270,32 +317,38 @@ fn states() {
 }
 
 /// The edits that take one run of bytes.
-type Edit = unsafe extern "C" fn(*mut u8, *const u8, usize, *mut u64) -> u64;
+type EndEdit = unsafe extern "C" fn(*mut u8, *const u8, usize, *mut u64) -> u64;
 
-/// What may hold, and the numbers of the refusals, in their order.
-type Causes<'a> = &'a [(bool, u64)];
+/// The refusal of an edit, by its kind in a journal, from its place and the
+/// number of its bytes alone.
+fn edit_refusal(kind: u64, n: u64, p: u64, l: u64) -> Result<(), u64> {
+    let past = (too_long(n.into()), TOO_LONG);
+    let grown = (too_long(whole_sum(n, l)), TOO_LONG);
+    let broken = (!l.is_multiple_of(16), NOT_WHOLE);
+    let outside = (whole_sum(p, l) > n.into(), OUTSIDE);
+    match kind {
+        APPEND => refuse(&[past, grown]),
+        PREPEND => refuse(&[past, broken, grown]),
+        DROP_FRONT => refuse(&[past, broken, outside]),
+        CHANGE | CUT_TAIL => refuse(&[past, outside]),
+        _ => panic!("{kind} is no edit's kind"),
+    }
+}
 
 #[test]
 fn edits() {
+    let edits: [(&str, EndEdit, u64); 4] = [
+        ("append", c::armfile_append, APPEND),
+        ("prepend", c::armfile_prepend, PREPEND),
+        ("drop_front", c::armfile_drop_front, DROP_FRONT),
+        ("cut_tail", c::armfile_cut_tail, CUT_TAIL),
+    ];
     for n in FILES {
         for l in LENGTHS {
-            let past = (too_long(n.into()), TOO_LONG);
-            let grown = (too_long(whole_sum(n, wide(l))), TOO_LONG);
-            let broken = (!l.is_multiple_of(16), NOT_WHOLE);
-            let outside = (wide(l) > n, OUTSIDE);
-            let edits: [(&str, Edit, Causes); 4] = [
-                ("append", c::armfile_append, &[past, grown]),
-                ("prepend", c::armfile_prepend, &[past, broken, grown]),
-                (
-                    "drop_front",
-                    c::armfile_drop_front,
-                    &[past, broken, outside],
-                ),
-                ("cut_tail", c::armfile_cut_tail, &[past, outside]),
-            ];
-            for (name, function, causes) in edits {
+            for (name, function, kind) in edits {
                 let name = format!("{name} of {l} bytes, file of {n}");
-                expect(&name, refuse(causes), l > TRUE, &Lent::of(n), |lent| {
+                let expected = edit_refusal(kind, n, 0, wide(l));
+                expect(&name, expected, l > TRUE, &Lent::of(n), |lent| {
                     // SAFETY: what is claimed is on the forbidden page.
                     unsafe { function(lent.state.as_mut_ptr(), input(l), l, &mut lent.count) }
                 });
@@ -320,11 +373,8 @@ fn changes() {
                 u64::MAX - 19,
                 u64::MAX,
             ] {
-                let expected = refuse(&[
-                    (too_long(n.into()), TOO_LONG),
-                    (old != new, UNEQUAL),
-                    (whole_sum(p, wide(new)) > n.into(), OUTSIDE),
-                ]);
+                let first = [(too_long(n.into()), TOO_LONG), (old != new, UNEQUAL)];
+                let expected = refuse(&first).and_then(|()| edit_refusal(CHANGE, n, p, wide(new)));
                 let name = format!("change at {p} of {old} bytes to {new}, file of {n}");
                 expect(&name, expected, old > TRUE, &Lent::of(n), |lent| {
                     let (before, after) = (input(old), input(new));
@@ -334,6 +384,81 @@ fn changes() {
                 });
             }
         }
+    }
+}
+
+/// A replay of a journal of which no byte is there. One that is too long leaves
+/// the state, and is at its first byte.
+#[test]
+fn journals() {
+    let limit = MAX_JOURNAL_BYTES as usize;
+    let around = [limit - 1, limit, limit + 1, limit + 12, limit + (1 << 32)];
+    for n in FILES {
+        for length in LENGTHS.into_iter().chain(around) {
+            let lent = Lent::of(n);
+            let (count, offset) = (0, 0);
+            let left = Lent {
+                count,
+                offset,
+                ..lent.clone()
+            };
+            let name = format!("replay of {length} bytes, file of {n}");
+            let expected = replay_refusal(n, wide(length));
+            expect_left(&name, expected, length > TRUE, [&lent, &left], |lent| {
+                replay(lent, input(length), length)
+            });
+        }
+    }
+}
+
+fn replay(lent: &mut Lent, journal: *const u8, length: usize) -> u64 {
+    let (state, count, offset) = (lent.state.as_mut_ptr(), &mut lent.count, &mut lent.offset);
+    // SAFETY: what is claimed is on the forbidden page.
+    unsafe { c::armfile_replay(state, journal, length, count, offset) }
+}
+
+/// Records of which only the head is there, after one that is whole or after
+/// none, on a file that may be too short, long enough or full.
+#[test]
+fn records() {
+    let edge = Edge::new();
+    let whole = Edit::Append(b"abc".to_vec()).pack();
+    for (n, done) in [(40, &whole[..]), (1 << 33, &[]), (MAX_BYTES - 3, &whole)] {
+        for kind in 0..8 {
+            for p in [0, 1, MAX_BYTES] {
+                for l in [0, 1, 16, 1 << 31, (1 << 32) - 16, (1 << 32) - 1] {
+                    one_record(&edge, n, done, Head { kind, p, l });
+                }
+            }
+        }
+    }
+}
+
+/// A record after those that are done, with one byte less than it needs, with
+/// all, with one more, and with as many as a journal may have.
+fn one_record(edge: &Edge, n: u64, done: &[u8], head: Head) {
+    let lent = Lent::of(n);
+    let mut state = State::from_state_bytes(&lent.state);
+    let replayed = state.replay(done);
+    assert_eq!(replayed.refusal, None);
+    let left = Lent {
+        state: state.state_bytes(),
+        count: replayed.count,
+        offset: replayed.offset,
+        ..lent.clone()
+    };
+    let there = [done, &head.pack()].concat();
+    let journal = edge.put(&there);
+    let body = head.body();
+    let all = MAX_JOURNAL_BYTES - wide(there.len());
+    for remain in [body.saturating_sub(1), body, body + 1, all] {
+        let expected = head
+            .refusal(remain)
+            .and_then(|()| edit_refusal(head.kind, state.n, head.p, head.l));
+        let name = format!("replay of {head:?} before {remain} bytes, file of {n}");
+        expect_left(&name, expected, head.l > 0, [&lent, &left], |lent| {
+            replay(lent, journal, there.len() + remain as usize)
+        });
     }
 }
 

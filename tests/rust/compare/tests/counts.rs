@@ -4,9 +4,11 @@
 
 #![forbid(unsafe_code)]
 
-use armfile::State;
-use reference::field::{add, multiply, power, Block};
+use armfile::Refusal::JournalLength;
+use armfile::{Replayed, State};
+use reference::field::{add, multiply, power, seek_steps, Block};
 use reference::ghash::{block_count, blocks_of, hash_key, pair_block};
+use reference::journal::Edit;
 use reference::random::Random;
 use reference::{aes, state};
 
@@ -63,6 +65,22 @@ fn counted(n: usize) {
         ..state::State::start(&key, 5, 6, n as u64).expect("a state")
     };
     assert_eq!(read.as_bytes(), &expected.state_bytes(), "a file");
+    replayed(&key, &bytes, &expected);
+}
+
+/// A journal that appends such bytes to an empty file and has one byte more.
+fn replayed(key: &[u8], bytes: &[u8], expected: &state::State) {
+    let mut journal = Edit::Append(bytes.to_vec()).pack();
+    journal.push(0);
+    let mut held = State::start(key, 5, 6, 0).expect("a state");
+    let m = block_count(expected.n);
+    let outcome = Replayed {
+        count: m + seek_steps(m) + 1,
+        offset: 12 + expected.n,
+        refusal: Some(JournalLength),
+    };
+    assert_eq!(held.replay(&journal), outcome);
+    assert_eq!(held.as_bytes(), &expected.state_bytes(), "a journal");
 }
 
 /// What is counted here in two powers is what the second implementation counts.

@@ -35,7 +35,7 @@ fn number(text: &str) -> u64 {
 /// All of the header's numbers, and no other.
 #[test]
 fn names_and_numbers() {
-    let refusals: [(&str, Refusal, u64); 9] = [
+    let refusals: [(&str, Refusal, u64); 12] = [
         (
             "KEY_OR_BLOCK_LENGTH",
             KeyOrBlockLength,
@@ -49,6 +49,9 @@ fn names_and_numbers() {
         ("OUTPUT_LENGTH", OutputLength, refusal::BAD_BUFFER),
         ("SLIP_VERSION", SlipVersion, refusal::BAD_VERSION),
         ("EMPTY_NONCE", EmptyNonce, refusal::EMPTY_NONCE),
+        ("JOURNAL_LENGTH", JournalLength, refusal::BAD_JOURNAL),
+        ("RECORD_KIND", RecordKind, refusal::BAD_KIND),
+        ("RECORD_PLACE", RecordPlace, refusal::BAD_PLACE),
     ];
     let mut expected = BTreeMap::from([
         ("OK", 0),
@@ -58,6 +61,7 @@ fn names_and_numbers() {
         ("SLIP_BYTES", armfile::SLIP_BYTES as u64),
         ("BLOCK_BYTES", armfile::BLOCK_BYTES as u64),
         ("MAX_BYTES", armfile::MAX_BYTES),
+        ("MAX_JOURNAL_BYTES", armfile::MAX_JOURNAL_BYTES),
         ("SLIP_FORMAT", armfile::SLIP_FORMAT.into()),
     ]);
     for (name, refusal, number) in refusals {
@@ -68,5 +72,6 @@ fn names_and_numbers() {
     assert_eq!(armfile::STATE_BYTES, state::STATE_BYTES);
     assert_eq!(armfile::SLIP_BYTES, slip::SLIP_BYTES);
     assert_eq!(armfile::MAX_BYTES, refusal::MAX_BYTES);
+    assert_eq!(armfile::MAX_JOURNAL_BYTES, refusal::MAX_JOURNAL_BYTES);
     assert_eq!(u64::from(armfile::SLIP_FORMAT), slip::VERSION);
 }

@@ -1,13 +1,17 @@
-//! A plain second implementation of the arm file seal of document 01.
+//! A plain second implementation of the arm file seal of document 01, and of
+//! the edit journal of document 02, Q-1.
 //!
 //! FIPS 197 decides for AES, NIST SP 800-38D for the field, GHASH and GMAC,
-//! and document 01 for everything else. Clear code is preferred to fast code.
+//! and the two documents for everything else. Clear code is preferred to fast
+//! code.
 //!
 //! - `aes`: the cipher.
 //! - `field`: blocks and their arithmetic.
 //! - `ghash`: the running sum, GHASH and GMAC.
+//! - `bits`: numbers in bytes, packed most significant bit first.
 //! - `slip`: the 36 bytes of a slip.
 //! - `state`: the controller, by document 01's formulas.
+//! - `journal`: the records of a journal, and their replay.
 //! - `machine`: the plain machine, from the bytes alone.
 //! - `calls`: the block calls on slices, with their refusals.
 //! - `refusal`: the causes and their numbers.
@@ -15,9 +19,11 @@
 //!   that tests of edits choose with it.
 
 pub mod aes;
+pub mod bits;
 pub mod calls;
 pub mod field;
 pub mod ghash;
+pub mod journal;
 pub mod machine;
 pub mod random;
 pub mod refusal;

@@ -1,4 +1,4 @@
-//! Document 01, "Causes and their numbers".
+//! Document 01, "Causes and their numbers", and those of document 02, Q-1.
 
 /// Key, hash key or block not 16 bytes.
 pub const NOT_SIXTEEN: u64 = 1;
@@ -18,9 +18,18 @@ pub const BAD_BUFFER: u64 = 7;
 pub const BAD_VERSION: u64 = 8;
 /// Empty nonce.
 pub const EMPTY_NONCE: u64 = 9;
+/// Journal over 2^40 bytes, or fewer bytes remain than a record needs.
+pub const BAD_JOURNAL: u64 = 10;
+/// Record's kind 0, 6 or 7.
+pub const BAD_KIND: u64 = 11;
+/// Record's p not zero outside a change.
+pub const BAD_PLACE: u64 = 12;
 
 /// The largest byte length of a file, of A, of C and of a nonce.
 pub const MAX_BYTES: u64 = (1 << 61) - 1;
+
+/// The largest byte length of a journal.
+pub const MAX_JOURNAL_BYTES: u64 = 1 << 40;
 
 /// Refuses with the number of the first cause that holds, if one does.
 pub fn refuse(causes: &[(bool, u64)]) -> Result<(), u64> {

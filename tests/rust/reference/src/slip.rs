@@ -1,6 +1,7 @@
 //! The slip, document 01, "Slip, seal, check": 36 bytes, packed most
 //! significant bit first.
 
+use crate::bits::{number_of, pack};
 use crate::field::Block;
 use crate::refusal::{refuse, BAD_BUFFER, BAD_VERSION};
 
@@ -20,20 +21,16 @@ pub struct Slip {
 }
 
 impl Slip {
-    /// The slip's bytes: each field's bits follow those of the one before.
+    /// The slip's bytes.
     pub fn pack(&self) -> [u8; SLIP_BYTES] {
-        let fields = [
-            (3, u128::from(VERSION)),
-            (61, u128::from(self.length)),
-            (32, u128::from(self.arm)),
-            (64, u128::from(self.number)),
+        let bytes = pack(&[
+            (3, VERSION.into()),
+            (61, self.length.into()),
+            (32, self.arm.into()),
+            (64, self.number.into()),
             (128, u128::from_be_bytes(self.tag)),
-        ];
-        let mut bits = Vec::new();
-        for (width, value) in fields {
-            bits.extend((0..width).rev().map(|i| (value >> i) & 1 == 1));
-        }
-        std::array::from_fn(|i| byte_of(&bits[8 * i..8 * i + 8]))
+        ]);
+        bytes.try_into().expect("36 bytes")
     }
 
     /// The fields of a slip, or its refusal: 7, 8.
@@ -61,19 +58,6 @@ pub fn nonce(arm: u32, number: u64) -> [u8; 12] {
     bytes[..4].copy_from_slice(&arm.to_be_bytes());
     bytes[4..].copy_from_slice(&number.to_be_bytes());
     bytes
-}
-
-fn byte_of(bits: &[bool]) -> u8 {
-    bits.iter()
-        .fold(0, |byte, &bit| (byte << 1) | u8::from(bit))
-}
-
-/// The number in `width` bits of the bytes, from bit `first` on.
-fn number_of(bytes: &[u8], first: usize, width: usize) -> u128 {
-    (first..first + width).fold(0, |number, i| {
-        let bit = (bytes[i / 8] >> (7 - i % 8)) & 1;
-        (number << 1) | u128::from(bit)
-    })
 }
 
 #[cfg(test)]

@@ -32,7 +32,7 @@ pub fn every_small_edit(case: &mut Case) {
 }
 
 /// The state and the machine of a random file of n bytes.
-fn read_file(case: &mut Case, n: usize) -> (Lent, Machine) {
+pub fn read_file(case: &mut Case, n: usize) -> (Lent, Machine) {
     let key = case.random.bytes(16);
     let file = case.random.bytes(n);
     let machine = Machine::read(&key, 3, 4, &file).expect("a file");
@@ -48,7 +48,7 @@ fn read_file(case: &mut Case, n: usize) -> (Lent, Machine) {
 }
 
 /// The edits at the ends with l bytes, true ones where they are removed.
-fn true_edits(case: &mut Case, file: &[u8], l: usize) -> [Call; 4] {
+pub fn true_edits(case: &mut Case, file: &[u8], l: usize) -> [Call; 4] {
     let given = case.random.bytes(l);
     let [mut front, mut tail] = [given.clone(), given.clone()];
     copy_front(file, &mut front);

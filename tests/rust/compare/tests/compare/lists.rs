@@ -1,4 +1,4 @@
-//! Lists of random calls, refused ones among them.
+//! Lists of random calls, refused ones and journals among them.
 
 use armfile::{MAX_BYTES, SLIP_BYTES};
 use compare::{Call, Case, Lent};
@@ -69,6 +69,29 @@ impl List {
             }
             Err(number) => assert_eq!(answer, number, "the machine refuses"),
         }
+    }
+
+    /// A journal of a few edits, the last of which may be refused. The machine
+    /// makes them one by one.
+    fn replay(&mut self, case: &mut Case, truly: bool) {
+        let (mut journal, mut offset, mut answer) = (Vec::new(), 0, 0);
+        for _ in 0..case.random.below(6) {
+            let file = truly.then_some(&self.machine.bytes[..]);
+            let edit = some_recorded_edit(case, self.machine.n(), file);
+            journal.extend(edit.record());
+            match by_machine(&edit, &mut self.machine) {
+                Ok(count) => self.expected += count,
+                Err(number) => {
+                    answer = number;
+                    break;
+                }
+            }
+            offset = journal.len() as u64;
+        }
+        let answered = case.call(&Call::Replay { journal }, &mut self.lent);
+        assert_eq!(answered, answer, "the machine's answer to the journal");
+        assert_eq!(self.lent.offset, offset, "where the machine stops");
+        self.reported += self.lent.count;
     }
 
     /// A seal of both, in slips of the right length but once in ten. With
@@ -158,14 +181,26 @@ fn some_edit(case: &mut Case, n: u64, file: Option<&[u8]>) -> Call {
     }
 }
 
+/// A random edit that a record can hold: old and new are of one length, and p
+/// has 61 bits.
+pub fn some_recorded_edit(case: &mut Case, n: u64, file: Option<&[u8]>) -> Call {
+    let mut edit = some_edit(case, n, file);
+    if let Call::Change { p, old, new } = &mut edit {
+        new.truncate(old.len());
+        *p = (*p).min(MAX_BYTES);
+    }
+    edit
+}
+
 /// With true bytes the sum is that of the machine's bytes after every call.
 pub fn true_calls(case: &mut Case) {
     let read = case.random.once_in(2);
     let mut list = List::begin(case, read);
     for _ in 0..CALLS {
-        match case.random.below(8) {
+        match case.random.below(9) {
             0 => list.seal(case, true),
             1 => list.check(case, true),
+            2 => list.replay(case, true),
             _ => {
                 let call = some_edit(case, list.machine.n(), Some(&list.machine.bytes));
                 list.edit(case, &call);
@@ -182,9 +217,10 @@ pub fn calls_true_or_not(case: &mut Case) {
     let read = case.random.once_in(2);
     let mut list = List::begin(case, read);
     for _ in 0..CALLS {
-        match case.random.below(8) {
+        match case.random.below(9) {
             0 => list.seal(case, false),
             1 => list.check(case, false),
+            2 => list.replay(case, false),
             _ => {
                 let truly = case.random.once_in(2);
                 let file = truly.then_some(&list.machine.bytes[..]);

@@ -4,13 +4,15 @@ use armfile::SLIP_BYTES;
 use compare::{Call, Case, Lent};
 
 use crate::choose::{output, LONG};
+use crate::journals::{replay, singly};
 
-/// Every input of the case's length, one at a time, beside short ones.
+/// Every input of the case's length, one at a time, beside short ones, and a
+/// journal of such edits.
 pub fn inputs(case: &mut Case) {
     let long = LONG[case.index() as usize];
     hashes(case, long);
     let short = case.random.below(100) as usize;
-    let mut lent = read(case, short);
+    let lent = read(case, short);
     let bytes = case.random.bytes(long);
     let whole = bytes[..long / 16 * 16].to_vec();
     let edits = [
@@ -28,10 +30,11 @@ pub fn inputs(case: &mut Case) {
         Call::DropFront { bytes: whole },
         Call::CutTail { bytes },
     ];
-    for call in edits {
-        assert_eq!(case.call(&call, &mut lent), 0);
-    }
-    sealed_and_checked(case, lent);
+    let journal: Vec<u8> = edits.iter().flat_map(Call::record).collect();
+    let (answer, after) = singly(case, &lent, &edits);
+    assert_eq!((answer, after.offset), (0, journal.len() as u64));
+    assert!(replay(case, &lent, &journal) == (0, after.clone()));
+    sealed_and_checked(case, after);
     let lent = read(case, long);
     sealed_and_checked(case, lent);
 }

@@ -6,6 +6,7 @@
 mod blocks;
 mod choose;
 mod edits;
+mod journals;
 mod lists;
 mod long;
 mod slips;
@@ -39,6 +40,13 @@ const PARTS: &[Part] = &[
     ("the last numbers", 50, slips::last_numbers),
     ("long inputs", 9, long::inputs),
     ("a file of 3 MiB", 1, long::file),
+    ("journals of edits", 400, journals::of_edits),
+    ("journals on a long file", 150, journals::on_a_long_file),
+    ("journals cut short", 10, journals::cut_short),
+    ("heads with one bit turned", 10, journals::one_bit_turned),
+    ("every kind of head", 112, journals::every_head),
+    ("journals of any records", 3_000, journals::of_any_records),
+    ("a journal of many records", 1, journals::of_many_records),
 ];
 
 fn main() {

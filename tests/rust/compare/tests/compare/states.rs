@@ -1,4 +1,4 @@
-//! Start, read, and every call on states of arbitrary bytes.
+//! Start, read, and every call but replay on states of arbitrary bytes.
 
 use armfile::{MAX_BYTES, STATE_BYTES};
 use compare::{Call, Case, Lent};
@@ -46,7 +46,7 @@ pub fn read(case: &mut Case) {
 
 /// A state whose fields belong to no file: any key, H, I and S, H zero among
 /// them, and lengths and numbers past their ends.
-fn arbitrary_state(case: &mut Case) -> State {
+pub fn arbitrary_state(case: &mut Case) -> State {
     let random = &mut case.random;
     let mut state = State {
         key: random.block(),
@@ -71,7 +71,7 @@ fn arbitrary_state(case: &mut Case) -> State {
     state
 }
 
-/// Every call once on one arbitrary state.
+/// Every call but replay once on one arbitrary state.
 pub fn arbitrary(case: &mut Case) {
     let state = arbitrary_state(case);
     let mut lent = Lent::new();
