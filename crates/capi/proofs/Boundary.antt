@@ -9,7 +9,7 @@ use Prim.Native.Nat.{ℕ, _+_, _<_, _^_}
 use native.Mathlib.Omega.{arith}
 use lib.Dec.{eqb}
 use lib.ListN.{length, getD}
-use borrow.Author.Tests.{eq-eqb, ne-eqb, eqb-true, eqb-false}
+use borrow.Author.Tests.{eq-eqb, eqb-true, eqb-false}
 use Rattle.cipher.specs.Aes.{keyFits}
 use Rattle.cipher.proofs.AesLaws.{fits-length}
 use Rattle.field.specs.Field.{Small}
@@ -27,6 +27,7 @@ use Rattle.file.proofs.Demand1.{edited-kept, sealed-kept}
 use Rattle.file.proofs.Invariant.{Holds, holds-start, holds-read, holds-kept}
 use Rattle.journal.specs.Journals.{replayRefusal, replayed}
 use Rattle.journal.specs.Singly.{Task, call, replay, Editor, worked, taskCalls, asCalls}
+use Rattle.journal.proofs.OpeningLaws.{replayed-whole}
 use Rattle.journal.proofs.Lists.{editorOf, run-append, holds-run, task-same}
 use Rattle.capi.specs.Bytes.{stateBytes, packedState, stateFrom}
 use Rattle.capi.specs.Calls.{EditCall, kept, editCall, keptAtStart, startCall, readCall, stamped, sealCall, judged, checkCall, written, replayCall}
@@ -136,9 +137,8 @@ module _ (key : List ℕ) (arm : ℕ) (k : keyFits key ≡ true) (w : arm < 2 ^ 
 -- a journal that is refused as a whole leaves the bytes of the state that was read
 whole-kept : (state j : List ℕ) → length state ≡ stateBytes → ((i : ℕ) → i < stateBytes → getD state i 0 < 256)
     → replayRefusal (stateFrom state .n) j ≢ 0 → replayCall state j .state ≡ state
-unfolding replayCall written replayed
-whole-kept state j l small z =
-    rw (ne-eqb (replayRefusal (stateFrom state .n) j) 0 z) (bytes-back state l (λ i h. small i (rw l at h)))
+unfolding replayCall written
+whole-kept state j l small z = rw (replayed-whole (stateFrom state) j z) (bytes-back state l (λ i h. small i (rw l at h)))
 
 -- ---- from an accepted start or read, whatever bytes are lent
 

@@ -1,4 +1,4 @@
--- What an opening tells of the place (`tells`), and a journal applied from a place on, by what stands there.
+-- What an opening tells of the place (`tells`), a journal applied from a place on, by what stands there, and replay by the refusal of the whole.
 -- They rest on the definitions of specs/Records and Journals.
 use mathlib.Core.Path.{_≡_, refl}
 use mathlib.Core.Bool.{Bool, true, false, cond}
@@ -8,14 +8,14 @@ use native.Mathlib.Omega.{arith}
 use lib.Dec.{eqb, ltb}
 use lib.ListN.{length, take, drop, length-drop}
 use lib.Seq.{length-take-le}
-use borrow.Author.Tests.{eqb-true, eqb-false, ltb-true, ltb-false}
+use borrow.Author.Tests.{eq-eqb, ne-eqb, eqb-true, eqb-false, ltb-true, ltb-false}
 use Rattle.refusals.proofs.Laws.{first-passed}
 use Rattle.file.specs.declared.states.State.{State}
 use Rattle.file.specs.Edits.{Edit, given, replacing}
 use Rattle.file.specs.States.{edited}
 use Rattle.journal.specs.Records.{headBytes, recordKind, recordPlace, recordLength, bodyBytes, editNamed, recordEdit, recordBytes, nextPlace}
 use Rattle.journal.specs.Records.{recordRefusal, Opening, opens, refused, ended, openingWith, opening}
-use Rattle.journal.specs.Journals.{journalWith, journalFrom, stoppedAt, appliedEdits, applied}
+use Rattle.journal.specs.Journals.{journalWith, journalFrom, openedJournal, replayRefusal, stoppedAt, appliedEdits, applied, replayed}
 use Rattle.journal.proofs.RecordLaws.{head-enough, by-kinds, body-kinds}
 
 -- ---- the bytes of a record that opens
@@ -94,3 +94,14 @@ module _ (most : ℕ) (j : List ℕ) (at : ℕ) (st : State) (count : ℕ) where
   pub applied-ended : opening j at ≡ ended → applied st count (journalFrom (suc most) j at) ≡ stoppedAt st count 0 at
   unfolding applied appliedEdits journalFrom journalWith
   applied-ended q = rw q
+
+-- ---- replay, by the refusal of the whole
+
+module _ (st : State) (j : List ℕ) where
+  pub replayed-whole : (replayRefusal (st .n) j ≡ 0 → ⊥) → replayed st j ≡ stoppedAt st 0 (replayRefusal (st .n) j) 0
+  unfolding replayed
+  replayed-whole z = simp (ne-eqb (replayRefusal (st .n) j) 0 z)
+
+  pub replayed-records : replayRefusal (st .n) j ≡ 0 → replayed st j ≡ applied st 0 (openedJournal j)
+  unfolding replayed
+  replayed-records z = simp (eq-eqb (replayRefusal (st .n) j) 0 z)

@@ -30,7 +30,7 @@ use Rattle.journal.specs.Records.{recordBytes, opens, ended, opening}
 use Rattle.journal.specs.Journals.{maxJournal, ReplayAnswer, stoppedAt, openedJournal, journalFrom, applied, replayRefusal, replayed}
 use Rattle.journal.specs.Contracts.{causeNumber, answerRefusal, bytesIn, editOf, openingOf, OpenedAt}
 use Rattle.journal.proofs.RecordLaws.{cause-pos}
-use Rattle.journal.proofs.OpeningLaws.{Tells, tells, applied-opens, applied-refused, applied-ended}
+use Rattle.journal.proofs.OpeningLaws.{Tells, tells, applied-opens, applied-refused, applied-ended, replayed-whole, replayed-records}
 
 -- ---- one record
 
@@ -102,7 +102,7 @@ module _ {j : List ℕ} {st₀ st : State} {at count : ℕ} (s : Standing j st�
         counted : m ≡ edited st (editOf j e) .count
         counted = em ∙ sym (ap outcomeCount d) ∙ ap (λ (y : StateAnswer). y .count) a
 
-        -- each record counts at most 130 more than its bytes, and they are 12 more than those it gives
+        -- an edit counts at most 130 more than the bytes that it gives, its record has 12 bytes besides, and 130 is below 11 times 12
         count-few : count + m ≤ 11 * next
         unfolding recordBytes
         count-few = omega (arith, counted, edited-few st (editOf j e), record-within .0, s .few)
@@ -131,10 +131,9 @@ module _ {j : List ℕ} {st₀ st : State} {at count : ℕ} (s : Standing j st�
 -- a is the answer on state and journal as a whole
 module _ (st : State) (j : List ℕ) {a : Answer} (e : answerRefusal a ≡ replayRefusal (st .n) j) where
   pub replayed-refused : {c : Cause} → a ≡ answer.Refused c → stoppedAt st 0 (answerRefusal a) 0 ≡ replayed st j
-  unfolding replayed
   replayed-refused {c} q =
       let n : replayRefusal (st .n) j ≡ causeNumber c = sym e ∙ ap answerRefusal q in
-      ap (λ (m : ℕ). stoppedAt st 0 m 0) e ∙ simp (ne-eqb (replayRefusal (st .n) j) 0 (λ z. omega (arith, n, cause-pos c)))
+      ap (λ (m : ℕ). stoppedAt st 0 m 0) e ∙ sym (replayed-whole st j (λ z. omega (arith, n, cause-pos c)))
 
   module _ (q : a ≡ answer.Done) where
     passed : replayRefusal (st .n) j ≡ 0
@@ -145,5 +144,4 @@ module _ (st : State) (j : List ℕ) {a : Answer} (e : answerRefusal a ≡ repla
     replayed-short = ltb-false maxJournal (length j) (first-passed _ _ _ (first-passed _ _ _ passed (omega arith) .1) (omega arith) .0)
 
     pub replayed-all : {x : ReplayAnswer} → x ≡ applied st 0 (openedJournal j) → x ≡ replayed st j
-    unfolding replayed
-    replayed-all x = x ∙ simp (eq-eqb (replayRefusal (st .n) j) 0 passed)
+    replayed-all x = x ∙ sym (replayed-records st j passed)

@@ -21,7 +21,7 @@ use Rattle.file.proofs.EditAnswers.{edited-refusal, edited-length}
 use Rattle.journal.specs.Records.{headBytes, recordBytes, Opening, opens, refused, ended, opening}
 use Rattle.journal.specs.Journals.{Journal, journalWith, journalFrom, openedJournal, maxJournal, replayRefusal, ReplayAnswer, stoppedAt, appliedEdits, applied, replayed}
 use Rattle.journal.specs.Singly.{madeFrom, made, stopFrom, stopOf, Opens, answerAt, ReplayTheorem}
-use Rattle.journal.proofs.OpeningLaws.{Tells, tells, record-some, applied-opens, applied-refused, applied-ended}
+use Rattle.journal.proofs.OpeningLaws.{Tells, tells, record-some, applied-opens, applied-refused, applied-ended, replayed-whole, replayed-records}
 
 -- ---- the edits made from a place on, by what stands there
 
@@ -148,8 +148,7 @@ walk (suc most) j r at count l f =
 
 -- what is refused as a whole
 whole : (st : State) (j : List ℕ) (n : ℕ) → n ≡ replayRefusal (st .n) j → 0 < n → replayed st j ≡ stoppedAt st 0 n 0
-unfolding replayed
-whole st j n e p = rw (← e) (simp (ne-eqb n 0 (λ z. omega arith)))
+whole st j n e p = replayed-whole st j (λ z. omega (arith, e)) ∙ ap (λ (m : ℕ). stoppedAt st 0 m 0) (sym e)
 
 module _ (r : Run) (j : List ℕ) (short : r .state .n ≤ maxBytes) (few : length j ≤ maxJournal) where
   passed : replayRefusal (r .state .n) j ≡ 0
@@ -157,8 +156,8 @@ module _ (r : Run) (j : List ℕ) (short : r .state .n ≤ maxBytes) (few : leng
   passed = sym (first-later _ _ _ (le-ltb _ _ short) (first-later _ _ _ (le-ltb _ _ few) first-none))
 
   single : Walked r j 0 0 (made (r .state .n) j) (replayed (r .state) j)
-  unfolding made replayed openedJournal
-  single = simp (eq-eqb _ 0 passed) (walk (length j) j r 0 0 (omega arith) (omega arith))
+  unfolding made openedJournal
+  single = rw (eq-eqb _ 0 passed, replayed-records (r .state) j passed) (walk (length j) j r 0 0 (omega arith) (omega arith))
 
   -- a record at the offset is refused, since the journal's end is not there
   single-kept : (e : Edit) (next : ℕ) → opening j (replayed (r .state) j .offset) ≡ opens e next
