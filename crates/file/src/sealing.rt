@@ -10,12 +10,12 @@ use super::states::State;
 use field::Block;
 use field::hashing::MAX_BYTES;
 use field::packing::store;
+use gcm::tags::same;
 use gcm::tags::tag;
 ghost use mathlib.Core.Path.{_≡_};
 ghost use mathlib.Core.Bool.{false};
 ghost use Prim.Native.Nat.{_≤_};
-ghost use lib.Dec.{eqb};
-ghost use Rattle.field.specs.Field.{maxBytes, value};
+ghost use Rattle.field.specs.Field.{maxBytes};
 ghost use Rattle.file.specs.Slips.{sealRefusal, sealed, checked, stateTag};
 ghost use Rattle.file.specs.Contracts.{answerRefusal, sealAnswer, checkAnswer, openedOf};
 
@@ -101,16 +101,6 @@ impl State {
         let s = self.s;
         tag(key, h, s, self.n, &nonce)
     }
-}
-
-// Whether two blocks are the same, by one comparison. The halves of the joined differences are joined again because the compiler turns
-// a comparison of (a ^ b) | (c ^ d) with 0 into two, with a jump between them (tests/ct would find it).
-fn same(a: Block, b: Block) -> bool
-    ensures { λ r. ⌜ r ≡ eqb (value a) (value b) ⌝ }
-{
-    let differ = (a.hi ^ b.hi) | (a.lo ^ b.lo);
-    let folded = (differ >> 32) | (differ % 0x1_0000_0000);
-    folded == 0
 }
 
 // The refusal of a slip that did not open.

@@ -1,4 +1,4 @@
-// The tag's parts: the hash key H, the block J, and the tag of a sum.
+// The tag's parts: the hash key H, the block J, the tag of a sum, and whether two tags are the same.
 use cipher::Key;
 use field::Block;
 use field::hashing::closed;
@@ -6,8 +6,9 @@ use field::hashing::hash;
 use field::packing::store;
 ghost use mathlib.Core.Path.{_≡_};
 ghost use Prim.Native.Nat.{_≤_};
+ghost use lib.Dec.{eqb};
 ghost use lib.ListN.{length};
-ghost use Rattle.field.specs.Field.{maxBytes};
+ghost use Rattle.field.specs.Field.{maxBytes, value};
 ghost use Rattle.gcm.specs.Gmac.{hashKey, tagOf};
 ghost use Rattle.gcm.specs.Gmac;
 
@@ -54,4 +55,14 @@ pub fn tag(key: Key, h: Block, s: Block, n: u64, nonce: &[u8]) -> Block
     ensures { λ r. ⌜ r ≡ tagOf (key .bytes) h s n (now (nonce .entry)) ⌝ }
 {
     closed(h, s, n, 0).plus(pad(key, h, nonce))
+}
+
+// Whether two tags are the same, by one comparison. It serves the layers above. The halves of the joined differences are joined again because
+// the compiler turns a comparison of (a ^ b) | (c ^ d) with 0 into two, with a jump between them (tests/ct would find it).
+pub fn same(a: Block, b: Block) -> bool
+    ensures { λ r. ⌜ r ≡ eqb (value a) (value b) ⌝ }
+{
+    let differ = (a.hi ^ b.hi) | (a.lo ^ b.lo);
+    let folded = (differ >> 32) | (differ % 0x1_0000_0000);
+    folded == 0
 }
