@@ -2,4 +2,5 @@ pub mod Tables
 pub mod Bytes
 pub mod KeyRows
 pub mod Whole
+pub mod ManyBlocks
 pub mod AesLaws

@@ -14,7 +14,7 @@ use Rattle.cipher.specs.Tables.{tab, at}
 use Rattle.cipher.specs.Rounds.{SubBytes, ShiftRows, AddRoundKey}
 use Rattle.cipher.specs.Schedule.{KeyExpansion, schedule}
 use Rattle.cipher.specs.Contracts.{causeNumber, answerRefusal, rowOf, Expands}
-use Rattle.cipher.specs.Cipher.{Round, after, Cipher, Nk, Nr, aes}
+use Rattle.cipher.specs.Cipher.{Round, after, Cipher, Nk, Nr, rowsOf, aes}
 use Rattle.cipher.specs.declared.Answer.{Answer}
 use Rattle.cipher.specs.declared.Answer.the-variants.{Done, Refused}
 use Rattle.cipher.specs.declared.Cause.{Cause}
@@ -43,20 +43,20 @@ tab-at n s e =
     (λ i h. getD-tab n (at s) i 0 (omega (arith, length-tab n (at s))))
 
 -- The code expands a key that itself fills d rows, one or two. Its schedule has 4·d + 7 rows: Nr is 4·d + 6, and a row is added first.
-pub key-expands : (key : List ℕ) (d : ℕ) → length key ≡ 16 * d → 1 ≤ d → d ≤ 2 → Expands key (4 * d + 7)
-key-expands key d e low high = omega arith
+pub key-expands : (key : List ℕ) (d n : ℕ) → length key ≡ 16 * d → 1 ≤ d → d ≤ 2 → n ≡ 4 * d + 7 → Expands key n
+key-expands key d n e low high rows = omega arith
 
 -- the rows that it fills are the schedule
-pub schedule-rows : (key : List ℕ) (d : ℕ) → length key ≡ 16 * d → tab (4 * d + 7) (rowOf key) ≡ schedule (Nk key) (Nr key) key
-unfolding rowOf schedule KeyExpansion
-schedule-rows key d e =
-    let rows : 4 * d + 7 ≡ Nr key + 1 = omega arith in
+pub schedule-rows : (key : List ℕ) (d n : ℕ) → length key ≡ 16 * d → n ≡ 4 * d + 7 → tab n (rowOf key) ≡ rowsOf key
+unfolding rowsOf rowOf schedule KeyExpansion
+schedule-rows key d n e f =
+    let rows : n ≡ Nr key + 1 = omega arith in
     rw rows (tab-ext (Nr key + 1) _ _ (λ r h. row-stable (Nk key) r (r + 1) (Nr key + 1) key (omega arith) h))
 
 -- AES by the cipher over the rows of the key's schedule
 pub aes-rows :
-    (key block : List ℕ) (rows : List (List ℕ)) → rows ≡ schedule (Nk key) (Nr key) key → Cipher (length rows - 1) block rows ≡ aes key block
-unfolding aes schedule
+    (key block : List ℕ) (rows : List (List ℕ)) → rows ≡ rowsOf key → Cipher (length rows - 1) block rows ≡ aes key block
+unfolding aes rowsOf schedule
 aes-rows key block rows e = rw (e, length-tab, add-sub-cancel)
 
 -- ---- the block call

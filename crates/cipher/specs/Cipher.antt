@@ -1,7 +1,8 @@
--- CIPHER (FIPS 197, section 5.1) over the rows of a schedule, and AES by the key's length.
+-- CIPHER (FIPS 197, section 5.1) over the rows of a schedule, AES by the key's length, and the cipher of many blocks.
 use mathlib.Core.List.{List, []}
-use Prim.Native.Nat.{ℕ, zero, suc, _+_, _-_, _/_}
-use lib.ListN.{length, getD}
+use Prim.Native.Nat.{ℕ, zero, suc, _+_, _-_, _*_, _/_, _%_}
+use lib.ListN.{length, getD, take, drop}
+use Rattle.cipher.specs.Tables.{tab, at}
 use Rattle.cipher.specs.Rounds.{SubBytes, ShiftRows, MixColumns, AddRoundKey}
 use Rattle.cipher.specs.Schedule.{schedule}
 
@@ -26,6 +27,14 @@ Nk key = length key / 4
 abbrev pub Nr : List ℕ → ℕ
 Nr key = Nk key + 6
 
+-- the rows of a key's schedule, by its length (section 5)
+unfoldable pub rowsOf : List ℕ → List (List ℕ)
+rowsOf key = schedule (Nk key) (Nr key) key
+
 -- AES of a block, by the key's length (section 5); which lengths are taken is keyFits (specs/Answers)
 unfoldable pub aes : List ℕ → List ℕ → List ℕ
-aes key input = Cipher (Nr key) input (schedule (Nk key) (Nr key) key)
+aes key input = Cipher (Nr key) input (rowsOf key)
+
+-- CIPHER of every block of a byte list, under the rows of a schedule (5.1, Algorithm 1): byte i is byte i mod 16 of the cipher of block i / 16
+unfoldable pub eachBlock : List (List ℕ) → List ℕ → List ℕ
+eachBlock rows s = tab (length s) (λ i. at (Cipher (length rows - 1) (take 16 (drop (16 * (i / 16)) s)) rows) (i % 16))

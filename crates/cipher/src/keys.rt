@@ -4,9 +4,11 @@ use super::schedule::fill;
 ghost use mathlib.Core.Path.{_≡_};
 ghost use mathlib.Core.Bool.{true};
 ghost use lib.ListN.{length};
-ghost use Rattle.cipher.specs.Schedule.{schedule};
-ghost use Rattle.cipher.specs.Cipher.{Nk, Nr, aes};
+ghost use Rattle.cipher.specs.Cipher.{rowsOf, aes};
 ghost use Rattle.cipher.specs.Answers.{keyFits};
+
+// The rows of a key's schedule.
+pub const ROWS: usize = 11;
 
 // A cipher key.
 pub struct Key {
@@ -30,6 +32,16 @@ impl Key {
         Key { bytes }
     }
 
+    // Serves the layers above: fills the rows that the caller holds with the key's schedule. Who encrypts many blocks does it once; handed over by
+    // value to several callers, the rows would be copied by the C library's memcpy.
+    pub fn fill_rows(self, rows: &mut [[u8; 16]])
+        requires { ⌜ length (now rows) ≡ 11 ⌝ }
+        ensures { λ _. ⌜ now (rows .exit) ≡ rowsOf (self .bytes) ⌝ }
+    {
+        let bytes = self.bytes;
+        fill(&bytes, rows);
+    }
+
     // Serves the layers above: AES of one block, by value.
     pub fn encrypt(self, block: [u8; 16]) -> [u8; 16]
         ensures { λ r. ⌜ r ≡ aes (self .bytes) block ⌝ }
@@ -40,13 +52,12 @@ impl Key {
 }
 
 // The key's schedule: eleven rows of sixteen bytes, one that is added first and one for each of the ten rounds.
-fn expand(key: Key) -> [[u8; 16]; 11]
-    ensures { λ r. ⌜ r ≡ schedule (Nk (key .bytes)) (Nr (key .bytes)) (key .bytes) ⌝ }
+fn expand(key: Key) -> [[u8; 16]; ROWS]
+    ensures { λ r. ⌜ r ≡ rowsOf (key .bytes) ⌝ }
 {
-    let bytes = key.bytes;
     let blank = [0u8; 16];
-    let mut rows = [blank; 11];
-    fill(&bytes, &mut rows);
+    let mut rows = [blank; ROWS];
+    key.fill_rows(&mut rows);
     rows
 }
 

@@ -1,10 +1,13 @@
-// AES encryption of one block (FIPS 197). This layer knows nothing of the field or of files.
+// AES encryption of blocks (FIPS 197). This layer knows nothing of the field or of files.
+mod batches;
 mod byte_field;
 mod keys;
 mod rounds;
 mod schedule;
 
+pub use batches::encrypt_blocks;
 pub use keys::Key;
+pub use keys::ROWS;
 use keys::sixteen;
 ghost use mathlib.Core.Path.{_≡_};
 ghost use lib.ListN.{length};
