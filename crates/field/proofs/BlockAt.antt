@@ -1,6 +1,6 @@
 -- Laws of a byte list's blocks: the blocks of a joined, a padded and an added list, that every block is small, and that a block's
 -- bytes are read back as the block. They rest on the laws of numbers as bytes (`Bytes`, `XorBytes`) and of blocks (`Values`).
-use mathlib.Core.Path.{_≡_, ap, _∙_}
+use mathlib.Core.Path.{_≡_, refl, ap, _∙_}
 use mathlib.Core.List.{List, _++_}
 use Prim.Native.Nat.{ℕ, suc, _+_, _*_, _^_, _≤_, _<_}
 use native.Mathlib.Nat.{mod-eq-of-lt}
@@ -10,10 +10,10 @@ use Rattle.field.specs.declared.blocks.Block.{Block}
 use Rattle.field.specs.Bytes.{number, bytes, xorBytes}
 use Rattle.field.specs.Blocks.{_⊕_, zeroBlock, Small, value, block, blockAt, bytesOf}
 use Rattle.field.proofs.Values.{value-lt, value-block, block-value, small-block}
-use Rattle.field.proofs.Ring.{block-xor}
+use Rattle.field.proofs.Ring.{value-⊕, block-xor}
 use Rattle.field.proofs.Bytes.{number-lt, number-append-left, number-append-right, number-past, number-padded, number-zeros}
 use Rattle.field.proofs.Bytes.{number-bytes, bytes-number, length-bytes}
-use Rattle.field.proofs.XorBytes.{number-xor}
+use Rattle.field.proofs.XorBytes.{number-xor, bytes-xor}
 
 -- ---- the blocks of a list
 
@@ -59,6 +59,16 @@ blockAt-xor s t i =
 pub length-bytesOf : (b : Block) → length (bytesOf b) ≡ 16
 unfolding bytesOf
 length-bytesOf b = length-bytes 16 (value b)
+
+-- they are those of its number
+pub bytesOf-value : (b : Block) → bytesOf b ≡ bytes 16 (value b)
+unfolding bytesOf
+bytesOf-value b = refl
+
+-- the bytes of a sum are the sum of the bytes
+pub bytesOf-⊕ : (a b : Block) → bytesOf (a ⊕ b) ≡ xorBytes (bytesOf a) (bytesOf b)
+unfolding bytesOf
+bytesOf-⊕ a b = ap (bytes 16) (value-⊕ a b) ∙ bytes-xor 16 (value a) (value b)
 
 -- sixteen bytes written are read as the number's block
 pub blockAt-bytes : (v : ℕ) → v < 2 ^ 128 → blockAt (bytes 16 v) 0 ≡ block v

@@ -2,13 +2,15 @@
 -- for. They ask no bound of a list's elements. They rest on the laws of exclusive or (`Xor`).
 use mathlib.Core.Path.{_≡_, refl, sym, ap, ap₂, _∙_}
 use mathlib.Core.List.{List, [], _∷_, _++_}
-use Prim.Native.Nat.{ℕ, zero, suc, _+_, _*_, _%_, _≤_, max}
+use Prim.Native.Nat.{ℕ, zero, suc, _+_, _*_, _/_, _%_, _≤_, max}
 use native.Mathlib.Nat.{le-refl, le-of-suc-le-suc, not-suc-le-zero, suc-inj, mod-lt, zero-lt-suc, zero-max, suc-max-suc, max-zero}
 use native.Mathlib.Omega.{arith}
+use lib.Bits.{bitXor}
 use lib.ListN.{length, getD, replicate, length-replicate}
 use Rattle.field.specs.Elements.{xor}
-use Rattle.field.specs.Bytes.{number, xorBytes}
-use Rattle.field.proofs.Xor.{xor-zero-l, xor-zero-r, xor-self, xor-comm, xor-assoc, xor-mod, xor-split}
+use Rattle.field.specs.Bytes.{number, bytes, xorBytes}
+use Rattle.field.proofs.Xor.{xor-zero-l, xor-zero-r, xor-self, xor-comm, xor-assoc, xor-shr, xor-mod, xor-split}
+use Rattle.field.proofs.Bytes.{length-bytes}
 
 -- at every place, past the end of either list too
 pub getD-xor : (s t : List ℕ) (i : ℕ) → getD (xorBytes s t) i 0 ≡ xor (getD s i 0) (getD t i 0)
@@ -17,6 +19,11 @@ getD-xor [] t i = sym (xor-zero-l (getD t i 0))
 getD-xor (a ∷ s) [] i = sym (xor-zero-r (getD (a ∷ s) i 0))
 getD-xor (a ∷ s) (b ∷ t) zero = refl
 getD-xor (a ∷ s) (b ∷ t) (suc i) = getD-xor s t i
+
+-- as code adds bytes
+pub getD-bits : (s t : List ℕ) (i : ℕ) → getD (xorBytes s t) i 0 ≡ bitXor (getD s i 0) (getD t i 0)
+unfolding xor
+getD-bits s t i = getD-xor s t i
 
 -- the sum is as long as the longer list
 pub length-xor-max : (s t : List ℕ) → length (xorBytes s t) ≡ max (length s) (length t)
@@ -82,6 +89,17 @@ xorBytes-append [] b [] d e = refl
 xorBytes-append [] b (y ∷ c) d e = absurd (omega arith)
 xorBytes-append (x ∷ a) b [] d e = absurd (omega arith)
 xorBytes-append (x ∷ a) b (y ∷ c) d e = ap (λ (l : List ℕ). xor x y ∷ l) (xorBytes-append a b c d (suc-inj e))
+
+-- the bytes of a sum of numbers are the sum of their bytes
+pub bytes-xor : (k a b : ℕ) → bytes k (xor a b) ≡ xorBytes (bytes k a) (bytes k b)
+unfolding bytes xorBytes
+bytes-xor zero a b = refl
+bytes-xor (suc k) a b =
+    ap₂ (λ (x y : ℕ). bytes k x ++ (y ∷ [])) (xor-shr 8 a b) (xor-mod 8 a b)
+    ∙ ap (λ (l : List ℕ). l ++ (xor (a % 256) (b % 256) ∷ [])) (bytes-xor k (a / 256) (b / 256))
+    ∙ sym
+    (xorBytes-append (bytes k (a / 256)) (a % 256 ∷ []) (bytes k (b / 256)) (b % 256 ∷ [])
+    (length-bytes k (a / 256) ∙ sym (length-bytes k (b / 256))))
 
 -- zero bytes in front of both lists stand in front of their sum
 pub xorBytes-lead : (lead : ℕ) (a b : List ℕ) → xorBytes (replicate lead 0 ++ a) (replicate lead 0 ++ b) ≡ replicate lead 0 ++ xorBytes a b
