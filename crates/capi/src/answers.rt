@@ -39,7 +39,7 @@ pub fn field_number(a: field::Answer) -> u64
     }
 }
 
-// The number of GMAC's answer.
+// The number of an answer of GMAC or GCM.
 pub fn gcm_number(a: gcm::Answer) -> u64
     ensures { λ r. ⌜ r ≡ Gcm.answerRefusal a ⌝ }
 {
@@ -48,8 +48,11 @@ pub fn gcm_number(a: gcm::Answer) -> u64
         gcm::Answer::Refused(cause) => match cause {
             gcm::Cause::KeyLength => 1,
             gcm::Cause::EmptyNonce => 9,
-            gcm::Cause::OutputLength => 7,
+            gcm::Cause::TagLength => 7,
+            gcm::Cause::TextLength => 7,
             gcm::Cause::TooLong => 2,
+            gcm::Cause::TextTooLong => 13,
+            gcm::Cause::WrongTag => 14,
         },
     }
 }

@@ -21,7 +21,7 @@ use packing::length_of;
 ghost use mathlib.Core.Path.{_≡_};
 ghost use Rattle.cipher.specs.Aes.{encryptRefusal, encryptOutput};
 ghost use Rattle.field.specs.Field.{multiplyRefusal, multiplyOutput, ghashRefusal, ghashOutput};
-ghost use Rattle.gcm.specs.Gcm.{gmacRefusal, gmacOutput};
+ghost use Rattle.gcm.specs.Gcm.{gmacRefusal, gmacOutput, encrypted, encryptResult, decrypted, decryptResult};
 ghost use Rattle.file.specs.Edits;
 ghost use Rattle.capi.specs.Bytes.{stateFrom};
 ghost use Rattle.capi.specs.Calls.{editCall, startCall, readCall, sealCall, checkCall, replayCall};
@@ -63,6 +63,41 @@ pub extern "C" fn armfile_gmac(key: &[u8], nonce: &[u8], a: &[u8], out: &mut [u8
     ensures output { λ _. ⌜ now (out .exit) ≡ gmacOutput (now (key .entry)) (now (nonce .entry)) (now (a .entry)) (now (out .entry)) ⌝ }
 {
     gcm_number(gcm::gmac(key, nonce, a, out))
+}
+
+// GCM encryption of a text under a key, a nonce and associated data. Refused, in this order, with 1 where the key is not 16 bytes, with 9 where
+// the nonce is empty, with 7 where tag is not 16 bytes or text and out differ in length, with 2 where nonce or aad passes 2^61 - 1 bytes, and
+// with 13 where the text passes 2^36 - 32; out and tag then stay as they were.
+#[no_mangle]
+pub extern "C" fn armfile_gcm_encrypt(
+    key: &[u8],
+    nonce: &[u8],
+    aad: &[u8],
+    text: &[u8],
+    out: &mut [u8],
+    tag: &mut [u8],
+) -> u64
+    ensures { λ r. ⌜ encryptResult r (now (out .exit)) (now (tag .exit))
+        ≡ encrypted (now (key .entry)) (now (nonce .entry)) (now (aad .entry)) (now (text .entry)) (now (out .entry)) (now (tag .entry)) ⌝ }
+{
+    gcm_number(gcm::encrypt(key, nonce, aad, text, out, tag))
+}
+
+// GCM decryption. Refused, in this order, as encryption is, and last with 14 where the tag is not that of text and associated data; out then
+// stays as it was.
+#[no_mangle]
+pub extern "C" fn armfile_gcm_decrypt(
+    key: &[u8],
+    nonce: &[u8],
+    aad: &[u8],
+    text: &[u8],
+    out: &mut [u8],
+    tag: &[u8],
+) -> u64
+    ensures { λ r. ⌜ decryptResult r (now (out .exit))
+        ≡ decrypted (now (key .entry)) (now (nonce .entry)) (now (aad .entry)) (now (text .entry)) (now (out .entry)) (now (tag .entry)) ⌝ }
+{
+    gcm_number(gcm::decrypt(key, nonce, aad, text, out, tag))
 }
 
 // The state of n zero bytes. Refused, in this order, with 1 where the key is not 16 bytes and with 2 where n passes 2^61 - 1; the lent state

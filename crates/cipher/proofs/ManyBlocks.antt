@@ -1,12 +1,11 @@
 -- Many blocks under one schedule: the invariant of the loop that replaces them one by one, and what the layers above use of it: each byte, and
 -- the case of one block. They rest on the laws of tables (`Tables`) and on lib.Seq.
 use mathlib.Core.Path.{_≡_, refl, sym, ap, ap₂, _∙_}
-use mathlib.Core.List.{List, [], _++_, append-nil, append-assoc}
+use mathlib.Core.List.{List, _++_, append-nil, append-assoc}
 use Prim.Native.Nat.{ℕ, _+_, _-_, _*_, _/_, _%_, _≤_, _<_}
 use native.Mathlib.Omega.{arith}
 use lib.ListN.{length, getD, take, drop, length-append, length-drop, drop-of-length-le}
 use lib.Seq.{length-take-le, take-all, take-at, drop-at, drop-drop, take-add, getD-take, getD-drop, ext-getD}
-use Rattle.cipher.specs.Tables.{tab, at}
 use Rattle.cipher.specs.Rounds.{AddRoundKey}
 use Rattle.cipher.specs.Cipher.{Cipher, rowsOf, aes, eachBlock}
 use Rattle.cipher.proofs.Tables.{length-tab, getD-tab}

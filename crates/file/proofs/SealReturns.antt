@@ -2,14 +2,14 @@
 use mathlib.Core.Path.{_≡_, refl, sym, ap, ap₂, _∙_}
 use mathlib.Core.Bool.{Bool, true, false}
 use mathlib.Core.List.{List}
-use Prim.Native.Nat.{ℕ, _+_, _-_, _^_, _≤_, _<_}
+use Prim.Native.Nat.{ℕ, _+_, _-_, _^_, _≤_}
 use native.Mathlib.Omega.{arith}
 use lib.Dec.{eqb}
 use lib.ListN.{length, replicate}
 use lib.Seq.{sets}
 use borrow.Author.Tests.{eq-eqb, ne-eqb, ltb-false, eqb-true, eqb-false}
 use Rattle.field.specs.declared.blocks.Block.{Block}
-use Rattle.field.specs.Field.{bytes, value, Small, maxBytes}
+use Rattle.field.specs.Field.{bytes, value, maxBytes}
 use Rattle.refusals.proofs.Laws.{first-passed, agreed}
 use Rattle.gcm.specs.Gcm.{tagOf}
 use Rattle.file.specs.declared.states.State.{State}

@@ -1,2 +1,9 @@
 pub mod Comparing
 pub mod TagLaws
+pub mod Strings
+pub mod CounterLaws
+pub mod Batches
+pub mod Refusals
+pub mod GmacLaws
+pub mod TextLaws
+pub mod GcmTheorem

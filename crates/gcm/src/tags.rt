@@ -20,8 +20,9 @@ pub fn hash_key(key: Key) -> Block
     Block::from_bytes(&h)
 }
 
-// J: a nonce of twelve bytes, then the 32-bit number 1; of any other nonce its hash. The requires: the number of its bits fits a word.
-fn nonce_block(h: Block, nonce: &[u8]) -> [u8; 16]
+// J: a nonce of twelve bytes, then the 32-bit number 1; of any other nonce its hash. It serves the crate. The requires: the number of its
+// bits fits a word.
+pub fn nonce_block(h: Block, nonce: &[u8]) -> [u8; 16]
     requires { ⌜ length (now nonce) ≤ maxBytes ⌝ }
     ensures { λ r. ⌜ r ≡ Gmac.J h (now (nonce .entry)) ⌝ }
 {
