@@ -6,8 +6,9 @@
  * arm number, last used seal number. Five edits move that state without
  * reading the file, one by one or as a journal of them. A seal writes a slip of
  * 36 bytes whose tag is AES-128 GMAC of the whole file; a check says whether a
- * slip is genuine. FIPS 197 decides for AES, NIST SP 800-38D for the field,
- * GHASH and GMAC.
+ * slip is genuine. A file that is to travel unread is encrypted by AES-128 GCM,
+ * which needs no state. FIPS 197 decides for AES, NIST SP 800-38D for the
+ * field, GHASH, GMAC and GCM.
  *
  * The library is for x86-64 and needs no other library.
  *
@@ -35,30 +36,33 @@
  *
  *  - Every pointer is valid and not NULL, also where its length is 0 (any
  *    address of an object then serves).
- *  - Every length is the true one: that many bytes may be read, and of `out`
- *    and a seal's `slip` written. It is below 2^63.
+ *  - Every length is the true one: that many bytes may be read, and of `out`,
+ *    of an encryption's `tag` and of a seal's `slip` written. It is below 2^63.
  *  - `state` points to ARMFILE_STATE_BYTES bytes, `count` and `offset` each to
  *    an aligned uint64_t, `verdict` to one byte. None of them needs a value
  *    before the call, but for a state that is read: that of an edit, a replay,
  *    a seal, a check or one of the three that read its fields.
  *  - What a call may write (a state that is not const, count, offset, out, the
- *    slip of a seal, verdict) overlaps nothing else that is passed to it. What
+ *    tag of an encryption, the slip of a seal, verdict) overlaps nothing else
+ *    that is passed to it: so no text is encrypted or decrypted in place. What
  *    is only read may overlap freely: old and new of a change may be the same
  *    bytes.
  *
  * TIME
  *
  * The code has no branch and no address that depends on a key, on a hash key,
- * on a running sum or on a file's bytes, with two exceptions. The cipher's
- * substitution table is looked up at addresses that depend on key and block,
- * so on a machine with a data cache the cipher (armfile_encrypt, armfile_gmac,
- * armfile_start, armfile_read, armfile_seal, armfile_check) is not
- * constant-time. And, in armfile_check, there is one jump on the verdict,
- * which is public: two tags are compared by one test of all their bits. Time
- * does depend on lengths, on places (p, n), on the arm number, on seal numbers,
- * on a slip's bytes outside its tag and on the heads of a journal's records;
- * these are taken for public. This is observed of the compiled library
- * (tests/ct), and is not part of what is proved.
+ * on a running sum, on a file's bytes or on a text, with two exceptions. The
+ * cipher's substitution table is looked up at addresses that depend on key and
+ * block, so on a machine with a data cache the cipher (armfile_encrypt,
+ * armfile_gmac, armfile_gcm_encrypt, armfile_gcm_decrypt, armfile_start,
+ * armfile_read, armfile_seal, armfile_check) is not constant-time. And there is
+ * one jump in armfile_check on the verdict, and one in armfile_gcm_decrypt on
+ * whether the tag fits; both are public once the call has answered. Two tags
+ * are compared by one test of all their bits. Time does depend on lengths, on
+ * places (p, n), on the arm number, on seal numbers, on a slip's bytes outside
+ * its tag and on the heads of a journal's records; these are taken for public.
+ * This is observed of the compiled library (tests/ct), and is not part of what
+ * is proved.
  *
  * STACK
  *
@@ -66,33 +70,36 @@
  * that go by the stack. They are the same at every length above 0, and at 0 no
  * more. This is measured (tests/stack), and is not part of what is proved:
  *
- *      armfile_encrypt    736      armfile_append       704
- *      armfile_multiply   160      armfile_prepend      704
- *      armfile_ghash      480      armfile_drop_front   704
- *      armfile_gmac      1024      armfile_cut_tail     704
- *      armfile_start      976      armfile_seal        1200
- *      armfile_read       992      armfile_check       1056
- *      armfile_change     704      armfile_length         8
- *      armfile_arm          8      armfile_last           8
- *      armfile_replay     960
+ *      armfile_encrypt       736      armfile_prepend      704
+ *      armfile_multiply      160      armfile_drop_front   704
+ *      armfile_ghash         480      armfile_cut_tail     704
+ *      armfile_gmac         1200      armfile_replay       960
+ *      armfile_gcm_encrypt  1552      armfile_seal        1168
+ *      armfile_gcm_decrypt  1536      armfile_check       1024
+ *      armfile_start         880      armfile_length         8
+ *      armfile_read          896      armfile_arm            8
+ *      armfile_change        704      armfile_last           8
+ *      armfile_append        704
  *
  * WHAT TO WIPE
  *
  * A call leaves on the stack, below its caller's frame, what it worked with:
  * keys, hash keys, H, I and sums were found there after every call but the
- * three that read a state's fields. The library wipes nothing: what the
- * compiler copies where is out of the source's reach. A caller into whose stack
- * somebody else may look wipes, after the last call,
+ * three that read a state's fields, and after armfile_gcm_decrypt also key
+ * stream, which is as good as the text to whoever has the ciphertext. The
+ * library wipes nothing: what the compiler copies where is out of the source's
+ * reach. A caller into whose stack somebody else may look wipes, after the last
+ * call,
  *
  *  - the stack below itself, by calling, from the function that made the calls,
  *    one that is not inlined and overwrites at least as many bytes as the
  *    largest figure above (examples/c/seal.c overwrites 2048; nothing was found
  *    after it);
  *  - every state that is no longer used, copies too: it holds the key;
- *  - its own copies of the key.
+ *  - its own copies of the key, and of texts that nobody else is to read.
  *
- * Slips, counts, offsets and verdicts are no secret. Registers were not looked
- * into.
+ * Slips, counts, offsets, verdicts, nonces, ciphertexts and tags that were sent
+ * are no secret. Registers were not looked into.
  *
  * COST
  *
@@ -107,12 +114,15 @@
  *      armfile_cut_tail of 16 bytes                        900
  *      armfile_seal, armfile_check                2 300, 2 400
  *      armfile_gmac of 1 KiB                            20 000
+ *      armfile_gcm_encrypt of 1 KiB, of 1 MiB  97 000, 95 000 000
+ *      armfile_gcm_decrypt of 1 KiB                     97 000
  *      armfile_encrypt, armfile_multiply            2 000, 300
  *
  * Most of it is products of blocks, about 240 each in a long run; an edit
  * returns how many it took. What armfile_start and armfile_read take besides
  * the file is H's companion I, some 250 products. A replay takes a little less
- * than its edits when they are made singly.
+ * than its edits when they are made singly. Most of GCM is blocks of the
+ * cipher, about 1 200 each.
  *
  * THE STATE
  *
@@ -179,11 +189,14 @@ extern "C" {
 /** \brief Size in bytes of a block, a hash key, a hash and a tag; a key's. */
 #define ARMFILE_BLOCK_BYTES 16
 
-/** \brief The longest file, A, C or nonce in bytes: 2^61 - 1. */
+/** \brief The longest file, A, C, aad or nonce in bytes: 2^61 - 1. */
 #define ARMFILE_MAX_BYTES UINT64_C(0x1fffffffffffffff)
 
 /** \brief The longest journal in bytes: 2^40. */
 #define ARMFILE_MAX_JOURNAL_BYTES UINT64_C(0x10000000000)
+
+/** \brief The longest text to encrypt or to decrypt, in bytes: 2^36 - 32. */
+#define ARMFILE_MAX_TEXT_BYTES UINT64_C(0xfffffffe0)
 
 /**
  * \brief The version of a slip, in its first 3 bits: slip[0] >> 5. (The refusal
@@ -205,7 +218,7 @@ extern "C" {
 #define ARMFILE_OK 0
 /** \brief Key, hash key or block is not 16 bytes. */
 #define ARMFILE_KEY_OR_BLOCK_LENGTH 1
-/** \brief A file, A, C or nonce passes 2^61 - 1 bytes, or would. */
+/** \brief A file, A, C, aad or nonce passes 2^61 - 1 bytes, or would. */
 #define ARMFILE_TOO_LONG 2
 /** \brief The bytes named do not all lie in the file. */
 #define ARMFILE_OUT_OF_FILE 3
@@ -217,7 +230,8 @@ extern "C" {
 #define ARMFILE_NUMBERS_USED 6
 /**
  * \brief A slip, to be written by a seal or judged by a check, is not 36
- * bytes, or another output is not 16.
+ * bytes; a text and its output differ in length; or a tag, or another output,
+ * is not 16 bytes.
  */
 #define ARMFILE_OUTPUT_LENGTH 7
 /** \brief The slip's version is not ARMFILE_SLIP_FORMAT, 1. */
@@ -230,9 +244,13 @@ extern "C" {
 #define ARMFILE_RECORD_KIND 11
 /** \brief The record is no change, and its place is not 0. */
 #define ARMFILE_RECORD_PLACE 12
+/** \brief A text to encrypt or to decrypt passes 2^36 - 32 bytes. */
+#define ARMFILE_TEXT_TOO_LONG 13
+/** \brief The tag does not fit: no text is released. */
+#define ARMFILE_WRONG_TAG 14
 
 /* ==================================================================== */
-/* Cipher, field, GHASH and GMAC: no state.                             */
+/* Cipher, field, GHASH, GMAC and GCM: no state.                        */
 
 /**
  * \brief AES-128 encryption of one block.
@@ -299,10 +317,10 @@ uint64_t armfile_ghash(const uint8_t *h, size_t h_len,
  * \brief AES-128 GMAC of a under a key and a nonce.
  *
  * A nonce of 12 bytes is used as it is, any other is hashed first (SP
- * 800-38D, 7.1). One nonce must never serve two messages under one key.
- * Refused with 1 where `key_len` is not 16, then with 9 where `nonce_len` is
- * 0, then with 7 where `out_len` is not 16, then with 2 where `nonce_len` or
- * `a_len` passes 2^61 - 1.
+ * 800-38D, 7.1). One nonce must never serve two messages under one key, nor a
+ * message and a text of armfile_gcm_encrypt(). Refused with 1 where `key_len`
+ * is not 16, then with 9 where `nonce_len` is 0, then with 7 where `out_len` is
+ * not 16, then with 2 where `nonce_len` or `a_len` passes 2^61 - 1.
  *
  * \param key        the key, 16 bytes.
  * \param key_len    its length; anything but 16 is refused.
@@ -319,6 +337,104 @@ uint64_t armfile_gmac(const uint8_t *key, size_t key_len,
 	const uint8_t *nonce, size_t nonce_len,
 	const uint8_t *a, size_t a_len,
 	uint8_t *out, size_t out_len);
+
+/**
+ * \brief AES-128 GCM encryption of a text.
+ *
+ * `out` receives the ciphertext, which is as long as the text, and `tag` the
+ * tag, which vouches for the ciphertext and for the associated data `aad`. To
+ * decrypt takes the same key, nonce and aad, the ciphertext and the whole tag;
+ * of these the key alone is secret. The text's length is not hidden. A nonce of
+ * 12 bytes is used as it is, any other is hashed first (SP 800-38D, 7.1). With
+ * an empty text the tag is that of armfile_gmac().
+ *
+ * ONE NONCE MUST NEVER SERVE TWICE UNDER ONE KEY, and nothing here can see to
+ * that. It must differ from every nonce that this call or armfile_gmac() was
+ * ever given with the key, and from those of the key's seals: a seal's nonce is
+ * 12 bytes, the arm number in 4 and the seal number in 8, big-endian. Two texts
+ * under one nonce give each other away, since their ciphertexts add up to what
+ * the texts do; and two tags under one nonce give the hash key away, with which
+ * anyone can forge. A key that encrypts and does nothing else keeps clear of
+ * all seals, and a number that is counted up and stored before it is used is a
+ * good nonce of 12 bytes. Where nonces are chosen by chance, or are not all of
+ * 12 bytes, at most 2^32 of them may be used with one key (SP 800-38D, 8.3).
+ *
+ * Refused with 1 where `key_len` is not 16, then with 9 where `nonce_len` is
+ * 0, then with 7 where `tag_len` is not 16, or `text_len` and `out_len` differ,
+ * then with 2 where `nonce_len` or `aad_len` passes 2^61 - 1, then with 13
+ * where `text_len` passes 2^36 - 32, the standard's own limit (5.2.1.1). All
+ * this is decided before any byte is read, and out and tag then stay as they
+ * were.
+ *
+ * The work is one block of the cipher for each 16 bytes of text, rounded up,
+ * and two more; and one product for each 16 bytes of aad and of text, rounded
+ * up, and one more. A nonce that is not 12 bytes takes one product for each 16
+ * of its bytes, rounded up, and one more.
+ *
+ * \param key        the key, 16 bytes.
+ * \param key_len    its length; anything but 16 is refused.
+ * \param nonce      the nonce; it need not be secret.
+ * \param nonce_len  its length, from 1 to 2^61 - 1.
+ * \param aad        the associated data, which the tag vouches for and which is
+ *                   not encrypted; it may be empty.
+ * \param aad_len    its length, at most 2^61 - 1.
+ * \param text       the text to encrypt; it may be empty.
+ * \param text_len   its length, at most 2^36 - 32.
+ * \param out        receives the ciphertext. It must not overlap key, nonce,
+ *                   aad, text or tag.
+ * \param out_len    its length; anything but text_len is refused.
+ * \param tag        receives the tag, 16 bytes. It must not overlap key, nonce,
+ *                   aad, text or out.
+ * \param tag_len    its length; anything but 16 is refused.
+ * \return 0, 1, 9, 7, 2 or 13.
+ */
+uint64_t armfile_gcm_encrypt(const uint8_t *key, size_t key_len,
+	const uint8_t *nonce, size_t nonce_len,
+	const uint8_t *aad, size_t aad_len,
+	const uint8_t *text, size_t text_len,
+	uint8_t *out, size_t out_len,
+	uint8_t *tag, size_t tag_len);
+
+/**
+ * \brief AES-128 GCM decryption of a ciphertext whose tag fits.
+ *
+ * The tag is tried first, over the ciphertext and aad. Exactly where it fits is
+ * the ciphertext decrypted, the text written to `out`, and 0 returned. Where it
+ * does not, 14 is returned, and nothing is decrypted: `out` keeps its old
+ * bytes, so test the returned number before using them. What was encrypted with
+ * the same key, nonce and aad comes back as it was. 14 means that at least one
+ * of key, nonce, aad, ciphertext and tag is not that of the encryption; it does
+ * not say which.
+ *
+ * Refused in the order of armfile_gcm_encrypt(), with 1, 9, 7, 2 and 13 for the
+ * same lengths, before any byte is read; and last with 14. `out` then stays as
+ * it was. A tag that was shortened, as the standard allows, is refused with 7.
+ *
+ * The work is that of the encryption, and where the tag does not fit, that
+ * without the cipher's blocks of the text.
+ *
+ * \param key        the key, 16 bytes.
+ * \param key_len    its length; anything but 16 is refused.
+ * \param nonce      the nonce of the encryption.
+ * \param nonce_len  its length, from 1 to 2^61 - 1.
+ * \param aad        the associated data of the encryption; it may be empty.
+ * \param aad_len    its length, at most 2^61 - 1.
+ * \param text       the ciphertext; it may be empty, and the tag is then tried
+ *                   all the same.
+ * \param text_len   its length, at most 2^36 - 32.
+ * \param out        receives the text. It must not overlap key, nonce, aad,
+ *                   text or tag.
+ * \param out_len    its length; anything but text_len is refused.
+ * \param tag        the tag, 16 bytes; it is only read.
+ * \param tag_len    its length; anything but 16 is refused.
+ * \return 0, 1, 9, 7, 2, 13 or 14.
+ */
+uint64_t armfile_gcm_decrypt(const uint8_t *key, size_t key_len,
+	const uint8_t *nonce, size_t nonce_len,
+	const uint8_t *aad, size_t aad_len,
+	const uint8_t *text, size_t text_len,
+	uint8_t *out, size_t out_len,
+	const uint8_t *tag, size_t tag_len);
 
 /* ==================================================================== */
 /* Making a state.                                                      */

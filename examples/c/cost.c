@@ -11,7 +11,7 @@
 #define RECORD (12 + 16) /* a record of 16 bytes */
 
 static uint8_t key[ARMFILE_BLOCK_BYTES], file[1024 * KIB], tag[ARMFILE_BLOCK_BYTES], slip[ARMFILE_SLIP_BYTES], verdict;
-static uint8_t journal[APPENDS * RECORD];
+static uint8_t journal[APPENDS * RECORD], sent[1024 * KIB], text[KIB];
 static uint64_t count, offset;
 
 static uint64_t now(void)
@@ -64,6 +64,11 @@ int main(void)
 	COST("seal", TIMES, 0, armfile_seal(state, slip, sizeof slip));
 	COST("check", TIMES, 0, armfile_check(state, slip, sizeof slip, &verdict));
 	COST("gmac of 1 KiB", TIMES, 0, armfile_gmac(key, sizeof key, key, 12, file, KIB, tag, sizeof tag));
+	COST("gcm_encrypt of 1 MiB", 9, 0,
+		armfile_gcm_encrypt(key, sizeof key, key, 12, key, 0, file, 1024 * KIB, sent, 1024 * KIB, tag, sizeof tag));
+	COST("gcm_encrypt of 1 KiB", TIMES, 0, armfile_gcm_encrypt(key, sizeof key, key, 12, key, 0, file, KIB, sent, KIB, tag, sizeof tag));
+	/* What the encryption just above sent. */
+	COST("gcm_decrypt of 1 KiB", TIMES, 0, armfile_gcm_decrypt(key, sizeof key, key, 12, key, 0, sent, KIB, text, KIB, tag, sizeof tag));
 	COST("encrypt", TIMES, 0, armfile_encrypt(key, sizeof key, file, 16, tag, sizeof tag));
 	COST("multiply", TIMES, 0, armfile_multiply(key, sizeof key, file, 16, tag, sizeof tag));
 	return 0;

@@ -4,20 +4,22 @@
  * memcheck's message say (ct move shows it): it chooses between two values that are both at hand, takes the same time for either, and what
  * it chose is followed on as undefined.
  *
- * Secret: keys, H, I, S, blocks, and the bytes of files, in a journal too. Public: lengths, places, arm and seal numbers, nonces, slips,
- * the heads of a journal's records, whose kind, p and l decide what is done, and every answer, count, offset and verdict. Answers, counts
- * and offsets must come out defined by themselves. A tag is published by the seal that makes it, and is declared public after that call,
- * not before.
+ * Secret: keys, H, I, S, blocks, the bytes of files, in a journal too, and GCM's texts, associated data and ciphertexts. Public: lengths,
+ * places, arm and seal numbers, nonces, slips, the heads of a journal's records, whose kind, p and l decide what is done, and every answer,
+ * count, offset and verdict. Answers, counts and offsets must come out defined by themselves, but for a decryption's. A tag is published by
+ * the call that makes it, and is declared public after that call, not before.
  *
  * The verdict is public and made inside check, so check may jump on it, and on nothing less: each check that comes to compare tags makes
  * at most one report, the jump, and its verdict then comes out defined, settled by that jump; or it makes no report, and its verdict
- * comes out undefined. A jump on a part of the tags would need a second one, or leave the verdict undefined.
+ * comes out undefined. A jump on a part of the tags would need a second one, or leave the verdict undefined. A decryption's answer, which
+ * says whether the tag fits, is held to the same; what it then writes, or leaves, shows which way it went.
  *
  * Each call is made on plain data too, and must give the same bytes.
  *
  * ct field    multiply, GHASH, a state's fields, the five edits and replay, which use no cipher
- * ct cipher   encrypt, GMAC, start, read and seal
+ * ct cipher   encrypt, GMAC, GCM encryption, start, read and seal
  * ct check    check
+ * ct decrypt  GCM decryption
  * ct branch, ct index    deliberate faults, which must be reported
  * ct move     a conditional move, which is no fault
  */
@@ -34,9 +36,14 @@
 #define MOST 100
 #define HEAD 12 /* a record's: kind, p and l */
 #define RECORDS 6
+#define TEXT 300 /* the longest text of GCM: more than a batch of sixteen blocks */
 
 static const size_t lengths[] = {0, 1, 15, 16, 17, 32, 33, 64, MOST};
 #define LENGTHS (sizeof lengths / sizeof lengths[0])
+static const size_t nonces[] = {1, 12, 16, 17};
+#define NONCES (sizeof nonces / sizeof nonces[0])
+static const size_t texts[] = {0, 1, 16, 17, 255, 256, 257, TEXT};
+#define TEXTS (sizeof texts / sizeof texts[0])
 
 static unsigned calls, comparisons, jumps;
 
@@ -51,7 +58,7 @@ static void reveal(void *bytes, size_t n) { (void)VALGRIND_MAKE_MEM_DEFINED(byte
 
 /* Whether every bit of the bytes is defined (which 0) or undefined (which 0xff). */
 static int all_bits(const void *bytes, size_t n, unsigned char which) {
-    unsigned char bits[256];
+    unsigned char bits[TEXT];
     if (n > sizeof bits || VALGRIND_GET_VBITS(bytes, bits, n) != 1)
         fail("memcheck does not say which bits are defined");
     for (size_t i = 0; i < n; i++)
@@ -256,9 +263,8 @@ static void on_replay(void) {
 
 /* The nonce is public. */
 static void on_gmac(void) {
-    const size_t nonces[] = {1, 12, 16, 17};
     for (size_t i = 0; i < LENGTHS; i++)
-        for (size_t j = 0; j < 4; j++) {
+        for (size_t j = 0; j < NONCES; j++) {
             uint8_t key[16], nonce[17], a[MOST], plain[16], out[16];
             fill(key, 16);
             fill(nonce, 17);
@@ -271,6 +277,62 @@ static void on_gmac(void) {
             reveal(out, 16);
             must_be_same(out, plain, 16, "another tag");
         }
+}
+
+/* What GCM is given, and what it writes; the lengths of nonce, aad and text, which is as long as out. */
+struct message {
+    uint8_t key[16], nonce[17], aad[MOST], text[TEXT], out[TEXT], tag[16];
+    size_t nonce_len, aad_len, text_len;
+};
+
+static struct message any_message(size_t nonce_len, size_t aad_len, size_t text_len) {
+    struct message m = {.nonce_len = nonce_len, .aad_len = aad_len, .text_len = text_len};
+    fill(m.key, 16);
+    fill(m.nonce, sizeof m.nonce);
+    fill(m.aad, MOST);
+    fill(m.text, TEXT);
+    fill(m.out, TEXT);
+    fill(m.tag, 16);
+    return m;
+}
+
+/* The nonce is public, and so is a tag that is given. */
+static void hide_message(struct message *m) {
+    hide(m->key, 16);
+    hide(m->aad, MOST);
+    hide(m->text, TEXT);
+}
+
+/* GCM by a message's own lengths, but for the key's, the output's and the tag's. */
+#define GCM(call, m, key_len, out_len, tag_len)                                                                                         \
+    call((m)->key, key_len, (m)->nonce, (m)->nonce_len, (m)->aad, (m)->aad_len, (m)->text, (m)->text_len, (m)->out, out_len, (m)->tag, \
+        tag_len)
+
+/* A length that is not the text's, and that its output has. */
+#define ANOTHER(text_len) (((text_len) + 1) % TEXT)
+
+static void one_encryption(size_t nonce_len, size_t aad_len, size_t text_len) {
+    struct message m = any_message(nonce_len, aad_len, text_len), plain = m;
+    answered(GCM(armfile_gcm_encrypt, &plain, 16, text_len, 16), 0);
+    hide_message(&m);
+    answered(GCM(armfile_gcm_encrypt, &m, 15, text_len, 16), 1);
+    answered(GCM(armfile_gcm_encrypt, &m, 16, ANOTHER(text_len), 16), 7);
+    answered(GCM(armfile_gcm_encrypt, &m, 16, text_len, 15), 7);
+    must_be_public(m.out, TEXT, "a refused call has written");
+    must_be_public(m.tag, 16, "a refused call has written");
+    answered(GCM(armfile_gcm_encrypt, &m, 16, text_len, 16), 0);
+    must_be_secret(m.out, text_len, "no secret in a ciphertext");
+    must_be_secret(m.tag, 16, "no secret in a tag");
+    reveal(m.out, TEXT);
+    must_be_same(m.out, plain.out, TEXT, "another ciphertext");
+    reveal(m.tag, 16);
+    must_be_same(m.tag, plain.tag, 16, "another tag");
+}
+
+static void on_gcm_encrypt(void) {
+    for (size_t i = 0; i < TEXTS; i++)
+        for (size_t j = 0; j < NONCES; j++)
+            one_encryption(nonces[j], lengths[(i + j) % LENGTHS], texts[i]);
 }
 
 static void on_start_and_read(void) {
@@ -329,6 +391,17 @@ static void on_seal(void) {
     }
 }
 
+/* A call that compares tags may jump on the outcome, and on nothing less: one report, and what it tells is then defined; or none, and it is
+ * not. */
+static void compared(unsigned reports, int defined) {
+    if (reports > 1)
+        fail("a comparison of tags jumps on less than its outcome");
+    if (defined != (reports == 1))
+        fail("the outcome of a comparison of tags is not settled by one jump");
+    comparisons++;
+    jumps += reports;
+}
+
 /* A check of a slip with one bit turned, or of the slip itself (bit -1). Tags are compared where length and arm are right. */
 static void one_check(const uint8_t *sealed, const uint8_t *genuine, int bit) {
     int compares = bit < 0 || bit >= 96;
@@ -342,12 +415,10 @@ static void one_check(const uint8_t *sealed, const uint8_t *genuine, int bit) {
     uint64_t answer = armfile_check(state, slip, SLIP, &verdict);
     unsigned reports = VALGRIND_COUNT_ERRORS - before;
     answered(answer, bit >= 0 && bit < 3 ? 8 : 0);
-    if (reports > (compares ? 1 : 0))
-        fail("a check jumps on less than the verdict");
-    if (all_bits(&verdict, 1, 0) != (reports == 1 || !compares))
-        fail("a verdict is not settled by check's one jump");
-    comparisons += compares;
-    jumps += reports;
+    if (compares)
+        compared(reports, all_bits(&verdict, 1, 0));
+    else if (reports > 0 || !all_bits(&verdict, 1, 0))
+        fail("a check that compares no tags jumps on a secret, or tells of one");
     reveal(&verdict, 1);
     if (verdict != (answer != 0 ? 2 : bit < 0))
         fail("another verdict");
@@ -364,6 +435,45 @@ static void on_check(void) {
     hide(state, SECRET_STATE);
     answered(armfile_check(state, slip, SLIP - 1, &verdict), 7);
     printf("ct check: %u comparisons of tags, %u jumps, all on the verdict\n", comparisons, jumps);
+}
+
+/* A decryption of what was sent, with one bit of its tag turned, or as it is (bit -1). */
+static void one_decryption(const struct message *sent, const uint8_t *text, int bit) {
+    struct message m = *sent;
+    if (bit >= 0)
+        m.tag[bit / 8] ^= 0x80 >> (bit % 8);
+    hide_message(&m);
+    unsigned before = VALGRIND_COUNT_ERRORS;
+    uint64_t answer = GCM(armfile_gcm_decrypt, &m, 16, m.text_len, 16);
+    compared(VALGRIND_COUNT_ERRORS - before, all_bits(&answer, sizeof answer, 0));
+    reveal(&answer, sizeof answer);
+    answered(answer, bit < 0 ? 0 : 14);
+    if (bit < 0) {
+        must_be_secret(m.out, m.text_len, "no secret in a text");
+        reveal(m.out, TEXT);
+        must_be_same(m.out, text, m.text_len, "another text");
+    } else {
+        must_be_public(m.out, TEXT, "a refused call has written");
+        must_be_same(m.out, sent->out, TEXT, "a refused call has written");
+    }
+}
+
+/* Every bit of a tag turned for three messages, and two bits for the others. */
+static void on_gcm_decrypt(void) {
+    for (size_t i = 0; i < TEXTS; i++)
+        for (size_t j = 0; j < NONCES; j++) {
+            struct message plain = any_message(nonces[j], lengths[(i + j) % LENGTHS], texts[i]), sent = plain;
+            answered(GCM(armfile_gcm_encrypt, &plain, 16, texts[i], 16), 0);
+            memcpy(sent.text, plain.out, TEXT);
+            memcpy(sent.tag, plain.tag, 16);
+            for (int bit = -1; bit < 128; bit += i + j == 2 ? 1 : 43)
+                one_decryption(&sent, plain.text, bit);
+            hide_message(&sent);
+            answered(GCM(armfile_gcm_decrypt, &sent, 15, texts[i], 16), 1);
+            answered(GCM(armfile_gcm_decrypt, &sent, 16, ANOTHER(texts[i]), 16), 7);
+            answered(GCM(armfile_gcm_decrypt, &sent, 16, texts[i], 15), 7);
+        }
+    printf("ct decrypt: %u comparisons of tags, %u jumps, all on whether the tag fits\n", comparisons, jumps);
 }
 
 /* The faults: memcheck must report them. */
@@ -406,10 +516,13 @@ int main(int argc, char **argv) {
     } else if (strcmp(part, "cipher") == 0) {
         on_blocks(armfile_encrypt);
         on_gmac();
+        on_gcm_encrypt();
         on_start_and_read();
         on_seal();
     } else if (strcmp(part, "check") == 0) {
         on_check();
+    } else if (strcmp(part, "decrypt") == 0) {
+        on_gcm_decrypt();
     } else if (strcmp(part, "branch") == 0) {
         fault(0);
     } else if (strcmp(part, "index") == 0) {
@@ -417,7 +530,7 @@ int main(int argc, char **argv) {
     } else if (strcmp(part, "move") == 0) {
         move();
     } else {
-        fail("ct field, cipher, check, branch, index or move");
+        fail("ct field, cipher, check, decrypt, branch, index or move");
     }
     printf("ct %s: %u calls\n", part, calls);
     return 0;

@@ -20,6 +20,7 @@
 static volatile uint8_t *stack;
 static uintptr_t caller;
 static uint8_t key[16], state[ARMFILE_STATE_BYTES], slip[ARMFILE_SLIP_BYTES], file[MOST + 16], out[16], verdict;
+static uint8_t text[MOST], sent[MOST], tag[16];
 static uint8_t journal[5 * HEAD + 6 * (MOST + 16)];
 static size_t journal_len;
 static uint64_t count, offset;
@@ -40,6 +41,8 @@ CALL(encrypt, armfile_encrypt(key, 16, file + n, 16, out, 16))
 CALL(multiply, armfile_multiply(key, 16, file + n, 16, out, 16))
 CALL(ghash, armfile_ghash(key, 16, file, n, file, n, out, 16))
 CALL(gmac, armfile_gmac(key, 16, file, 12 + n, file, n, out, 16))
+CALL(gcm_encrypt, armfile_gcm_encrypt(key, 16, file, 12 + n, file, n, file, n, sent, n, tag, 16))
+CALL(gcm_decrypt, armfile_gcm_decrypt(key, 16, file, 12 + n, file, n, sent, n, text, n, tag, 16))
 CALL(start, armfile_start(key, 16, 7, 0, n, state))
 CALL(read_file, armfile_read(key, 16, 7, 0, file, n, state))
 CALL(length, armfile_length(state) != (uint64_t)n << 40)
@@ -58,11 +61,12 @@ static const struct {
 	const char *name;
 	uint64_t (*call)(size_t);
 } calls[] = {
-	{ "encrypt", encrypt }, { "multiply", multiply }, { "ghash", ghash }, { "gmac", gmac }, { "start", start },
-	{ "read", read_file }, { "length", length }, { "arm", arm }, { "last", last }, { "change", change }, { "append", append }, { "prepend", prepend },
-	{ "drop_front", drop_front }, { "cut_tail", cut_tail }, { "replay", replay }, { "seal", seal }, { "check", check },
+	{ "encrypt", encrypt }, { "multiply", multiply }, { "ghash", ghash }, { "gmac", gmac }, { "gcm_encrypt", gcm_encrypt },
+	{ "gcm_decrypt", gcm_decrypt }, { "start", start }, { "read", read_file }, { "length", length }, { "arm", arm }, { "last", last },
+	{ "change", change }, { "append", append }, { "prepend", prepend }, { "drop_front", drop_front }, { "cut_tail", cut_tail },
+	{ "replay", replay }, { "seal", seal }, { "check", check },
 };
-static const size_t shorter[] = { 0, 1, 17, 100 };
+static const size_t shorter[] = { 0, 1, 17, 100, 256, 1000 };
 
 static void stop(const char *name, const char *what)
 {
@@ -90,7 +94,8 @@ static void write_journal(size_t n)
 	}
 }
 
-/* What a call at a length takes on this paint, with the state of a file of so many times 2^40 bytes and a slip of it. */
+/* What a call at a length takes on this paint, with the state of a file of so many times 2^40 bytes and a slip of it, and with a text of
+ * this length that was sent and its tag. */
 static size_t on_paint(const char *name, uint64_t (*volatile call)(size_t), size_t n, uint8_t paint)
 {
 	uintptr_t low = (uintptr_t)stack, end = (uintptr_t)&low - ROOM / 2;
@@ -98,6 +103,8 @@ static size_t on_paint(const char *name, uint64_t (*volatile call)(size_t), size
 
 	if (armfile_start(key, 16, 7, 0, (uint64_t)n << 40, state) != 0 || armfile_seal(state, slip, sizeof slip) != 0)
 		stop(name, "has no state and slip to be called on");
+	if (armfile_gcm_encrypt(key, 16, file, 12 + n, file, n, file, n, sent, n, tag, 16) != 0)
+		stop(name, "has no text that was sent");
 	write_journal(n);
 	for (i = 0; low + i < end; i++)
 		stack[i] = paint;
@@ -130,7 +137,7 @@ static void *run(void *unused)
 			if (shorter[i] == 0 ? here > figure : here != figure)
 				stop(calls[c].name, "takes more stack at one length than at another");
 		}
-		printf("%-10s %zu\n", calls[c].name, figure);
+		printf("%-11s %zu\n", calls[c].name, figure);
 	}
 	return unused;
 }

@@ -60,6 +60,34 @@ pub mod c {
             out: *mut u8,
             out_len: usize,
         ) -> u64;
+        pub fn armfile_gcm_encrypt(
+            key: *const u8,
+            key_len: usize,
+            nonce: *const u8,
+            nonce_len: usize,
+            aad: *const u8,
+            aad_len: usize,
+            text: *const u8,
+            text_len: usize,
+            out: *mut u8,
+            out_len: usize,
+            tag: *mut u8,
+            tag_len: usize,
+        ) -> u64;
+        pub fn armfile_gcm_decrypt(
+            key: *const u8,
+            key_len: usize,
+            nonce: *const u8,
+            nonce_len: usize,
+            aad: *const u8,
+            aad_len: usize,
+            text: *const u8,
+            text_len: usize,
+            out: *mut u8,
+            out_len: usize,
+            tag: *const u8,
+            tag_len: usize,
+        ) -> u64;
         pub fn armfile_start(
             key: *const u8,
             key_len: usize,
@@ -208,6 +236,62 @@ pub fn gmac(key: &[u8], nonce: &[u8], a: &[u8], out: &mut [u8]) -> u64 {
             a.len(),
             pointer_mut(out),
             out.len(),
+        )
+    }
+}
+
+/// `armfile_gcm_encrypt`: [`crate::gcm_encrypt`].
+pub fn gcm_encrypt(
+    key: &[u8],
+    nonce: &[u8],
+    aad: &[u8],
+    text: &[u8],
+    out: &mut [u8],
+    tag: &mut [u8],
+) -> u64 {
+    // SAFETY: as said at the module's head.
+    unsafe {
+        c::armfile_gcm_encrypt(
+            pointer(key),
+            key.len(),
+            pointer(nonce),
+            nonce.len(),
+            pointer(aad),
+            aad.len(),
+            pointer(text),
+            text.len(),
+            pointer_mut(out),
+            out.len(),
+            pointer_mut(tag),
+            tag.len(),
+        )
+    }
+}
+
+/// `armfile_gcm_decrypt`: [`crate::gcm_decrypt`].
+pub fn gcm_decrypt(
+    key: &[u8],
+    nonce: &[u8],
+    aad: &[u8],
+    text: &[u8],
+    out: &mut [u8],
+    tag: &[u8],
+) -> u64 {
+    // SAFETY: as said at the module's head.
+    unsafe {
+        c::armfile_gcm_decrypt(
+            pointer(key),
+            key.len(),
+            pointer(nonce),
+            nonce.len(),
+            pointer(aad),
+            aad.len(),
+            pointer(text),
+            text.len(),
+            pointer_mut(out),
+            out.len(),
+            pointer(tag),
+            tag.len(),
         )
     }
 }

@@ -4,7 +4,9 @@
 //! A controller keeps no motion file, only a [`State`] of 84 bytes. Changing,
 //! appending, prepending, dropping and cutting bytes moves the state without
 //! reading the file. A seal writes a slip of 36 bytes whose tag is AES-128
-//! GMAC of the whole file, and a check says whether a slip is genuine.
+//! GMAC of the whole file, and a check says whether a slip is genuine. A file
+//! that is to travel unread is encrypted by [`gcm_encrypt`] and brought back by
+//! [`gcm_decrypt`], which need no state.
 //!
 //! ```
 //! use armfile::{State, SLIP_BYTES};
@@ -64,6 +66,9 @@ pub const MAX_BYTES: u64 = (1 << 61) - 1;
 /// The largest byte length of a journal: 2^40.
 pub const MAX_JOURNAL_BYTES: u64 = 1 << 40;
 
+/// The largest byte length of a text to encrypt or to decrypt: 2^36 - 32.
+pub const MAX_TEXT_BYTES: u64 = (1 << 36) - 32;
+
 /// Why a call was refused.
 #[derive(Clone, Copy, Debug, PartialEq, Eq, Hash)]
 pub enum Refusal {
@@ -79,7 +84,8 @@ pub enum Refusal {
     BrokenBlock,
     /// 6: the last used number is 2^64 - 1, so no number is left.
     NumbersUsed,
-    /// 7: slip not 36 bytes, or tag or block output not 16.
+    /// 7: slip not 36 bytes, tag or block output not 16, or text and output of
+    /// different lengths.
     OutputLength,
     /// 8: slip version not 1.
     SlipVersion,
@@ -91,13 +97,17 @@ pub enum Refusal {
     RecordKind,
     /// 12: record's place not zero, and it is no change.
     RecordPlace,
+    /// 13: text to encrypt or to decrypt over 2^36 - 32 bytes.
+    TextTooLong,
+    /// 14: the tag doesn't fit, so no text was released.
+    WrongTag,
     /// A number that this wrapper doesn't know, which only a library of
     /// another version answers.
     Unknown(u64),
 }
 
 /// The causes with their numbers and what is wrong.
-const CAUSES: [(Refusal, u64, &str); 12] = [
+const CAUSES: [(Refusal, u64, &str); 14] = [
     (Refusal::KeyOrBlockLength, 1, "key or block not 16 bytes"),
     (Refusal::TooLong, 2, "more than 2^61 - 1 bytes"),
     (Refusal::OutOfFile, 3, "bytes outside the file"),
@@ -114,6 +124,12 @@ const CAUSES: [(Refusal, u64, &str); 12] = [
         12,
         "place in a record that is no change",
     ),
+    (
+        Refusal::TextTooLong,
+        13,
+        "text of more than 2^36 - 32 bytes",
+    ),
+    (Refusal::WrongTag, 14, "tag that doesn't fit"),
 ];
 
 impl Refusal {
@@ -183,6 +199,62 @@ pub fn ghash(h: &[u8], a: &[u8], c: &[u8], out: &mut [u8]) -> Result<(), Refusal
 /// in this order: 1, 9, 7, 2.
 pub fn gmac(key: &[u8], nonce: &[u8], a: &[u8], out: &mut [u8]) -> Result<(), Refusal> {
     Refusal::of(ffi::gmac(key, nonce, a, out))
+}
+
+/// Encrypts a text, AES-128 GCM of SP 800-38D: the ciphertext is written to
+/// `out`, which has the text's length, and the tag, which vouches for it and for
+/// the associated data, to the 16 bytes of `tag`. The nonce, of one byte or
+/// more, and the associated data are no part of what is written; whoever
+/// decrypts needs them too. Refusals, in this order: 1, 9, 7, 2, 13.
+///
+/// **Never use a nonce twice with one key**: not for two texts, and not for a
+/// text and a [`gmac`] or a [`State::seal`] either. Two texts under one nonce
+/// give their sum away, and two tags the hash key, by which anyone can forge.
+/// The nonce of a seal is 12 bytes, its arm number and its seal number; a key
+/// of its own for encryption keeps clear of them all.
+///
+/// ```
+/// use armfile::{gcm_decrypt, gcm_encrypt, Refusal};
+///
+/// # fn main() -> Result<(), armfile::Refusal> {
+/// let (key, nonce) = ([7; 16], [1; 12]); // from the key store, and never used before
+/// let (mut carried, mut tag) = ([0; 13], [0; 16]);
+/// gcm_encrypt(&key, &nonce, b"cell 3", b"MOVE 10 20 30", &mut carried, &mut tag)?;
+///
+/// let mut text = [0; 13];
+/// gcm_decrypt(&key, &nonce, b"cell 3", &carried, &mut text, &tag)?;
+/// assert_eq!(&text, b"MOVE 10 20 30");
+///
+/// let mut text = [0; 13];
+/// let other = gcm_decrypt(&key, &nonce, b"cell 4", &carried, &mut text, &tag);
+/// assert_eq!((other, text), (Err(Refusal::WrongTag), [0; 13]));
+/// # Ok(())
+/// # }
+/// ```
+pub fn gcm_encrypt(
+    key: &[u8],
+    nonce: &[u8],
+    aad: &[u8],
+    text: &[u8],
+    out: &mut [u8],
+    tag: &mut [u8],
+) -> Result<(), Refusal> {
+    Refusal::of(ffi::gcm_encrypt(key, nonce, aad, text, out, tag))
+}
+
+/// Decrypts what [`gcm_encrypt`] wrote with the same key, nonce and associated
+/// data. The tag is tried first: exactly where it fits is the text written to
+/// `out`, which has the ciphertext's length; otherwise `out` keeps its bytes.
+/// Refusals, in this order: 1, 9, 7, 2, 13, 14.
+pub fn gcm_decrypt(
+    key: &[u8],
+    nonce: &[u8],
+    aad: &[u8],
+    text: &[u8],
+    out: &mut [u8],
+    tag: &[u8],
+) -> Result<(), Refusal> {
+    Refusal::of(ffi::gcm_decrypt(key, nonce, aad, text, out, tag))
 }
 
 /// What a controller holds for a file: the key, the hash key and its
@@ -389,12 +461,14 @@ mod tests {
             let back = Refusal::of(number).map_or_else(Refusal::number, |()| 0);
             assert_eq!(back, number);
         }
-        assert_eq!(Refusal::of(13), Err(Refusal::Unknown(13)));
+        assert_eq!(Refusal::of(13), Err(Refusal::TextTooLong));
+        assert_eq!(Refusal::of(15), Err(Refusal::Unknown(15)));
         let shown = Refusal::BrokenBlock.to_string();
         assert_eq!(shown, "refused 5: length no multiple of 16");
     }
 
-    /// Each cause, brought about, has its name.
+    /// Each cause, brought about, has its name; but for 13, for which no test
+    /// has the memory.
     #[test]
     fn names_of_refusals() {
         let key = [1; 16];
@@ -419,6 +493,30 @@ mod tests {
             of(b"\x40\0\0\0\0\0\0\x01\0\0\0\0"),
             Some(Refusal::RecordPlace)
         );
+        let wrong_tag = gcm_decrypt(&key, &key, &[], &key, &mut out, &[0; 16]);
+        assert_eq!(wrong_tag, Err(Refusal::WrongTag));
+    }
+
+    /// Only under the right tag comes the text back.
+    #[test]
+    fn a_text_is_released_where_its_tag_fits() {
+        let (key, nonce, text) = ([1; 16], [2; 12], b"MOVE 10 20 30; GRIP");
+        let (mut carried, mut tag) = ([0; 19], [0; 16]);
+        assert_eq!(
+            gcm_encrypt(&key, &nonce, b"cell 3", text, &mut carried, &mut tag),
+            Ok(())
+        );
+        assert_ne!(&carried, text);
+        let decrypt = |aad: &[u8], tag: &[u8]| {
+            let mut out = [0xee; 19];
+            (gcm_decrypt(&key, &nonce, aad, &carried, &mut out, tag), out)
+        };
+        assert_eq!(decrypt(b"cell 3", &tag), (Ok(()), *text));
+        let refused = (Err(Refusal::WrongTag), [0xee; 19]);
+        assert_eq!(decrypt(b"cell 4", &tag), refused);
+        assert_eq!(decrypt(b"cell 3", &[0; 16]), refused);
+        let short = (Err(Refusal::OutputLength), [0xee; 19]);
+        assert_eq!(decrypt(b"cell 3", &tag[..12]), short);
     }
 
     /// A replay keeps what was done before the refused record.
@@ -479,5 +577,16 @@ mod tests {
         assert_eq!(state.replay(empty), nothing);
         assert_eq!(state.seal(&mut []), Err(Refusal::OutputLength));
         assert_eq!(state.check(empty), Err(Refusal::OutputLength));
+        let (mut tag, mut mac) = ([0; 16], [0; 16]);
+        assert_eq!(
+            gcm_encrypt(&[1; 16], &[2], empty, empty, &mut [], &mut tag),
+            Ok(())
+        );
+        assert_eq!(gmac(&[1; 16], &[2], empty, &mut mac), Ok(()));
+        assert_eq!(tag, mac, "GMAC is GCM with no text");
+        assert_eq!(
+            gcm_decrypt(&[1; 16], &[2], empty, empty, &mut [], &tag),
+            Ok(())
+        );
     }
 }

@@ -21,6 +21,12 @@ macro_rules! made {
             Call::Multiply { a, b } => $module::multiply(a, b, out),
             Call::Ghash { h, a, c } => $module::ghash(h, a, c, out),
             Call::Gmac { key, nonce, a } => $module::gmac(key, nonce, a, out),
+            Call::GcmEncrypt { message: m } => {
+                $module::gcm_encrypt(&m.key, &m.nonce, &m.aad, &m.text, out, &mut $after.tag)
+            }
+            Call::GcmDecrypt { message: m, tag } => {
+                $module::gcm_decrypt(&m.key, &m.nonce, &m.aad, &m.text, out, tag)
+            }
             Call::Start { key, arm, last, n } => {
                 <$state>::start(key, *arm, *last, *n).map(|state| $held = state)
             }
@@ -49,8 +55,15 @@ macro_rules! made {
 /// A count or an offset that no call has written yet.
 pub const UNWRITTEN: u64 = 0xeeee_eeee_eeee_eeee;
 
-/// How many bytes of an input the report of a failing case shows.
+/// How many bytes of an input or output the report of a failing case shows.
 const SHOWN: usize = 1_100;
+
+/// The first bytes in hexadecimal.
+fn shown(bytes: &[u8]) -> String {
+    let (first, more) = bytes.split_at(bytes.len().min(SHOWN));
+    let rest = if more.is_empty() { "" } else { ".." };
+    hex(first) + rest
+}
 
 /// A call and its arguments, but for what it is lent for writing.
 #[derive(Clone)]
@@ -72,6 +85,13 @@ pub enum Call {
         key: Vec<u8>,
         nonce: Vec<u8>,
         a: Vec<u8>,
+    },
+    GcmEncrypt {
+        message: Message,
+    },
+    GcmDecrypt {
+        message: Message,
+        tag: Vec<u8>,
     },
     Start {
         key: Vec<u8>,
@@ -111,13 +131,34 @@ pub enum Call {
     },
 }
 
-/// All that calls are lent for writing: the state, the output or slip, the
-/// count, the offset and the verdict. A call is lent some of them, and must
-/// leave the others.
+/// What GCM is to encrypt or to decrypt, and under what.
+#[derive(Clone)]
+pub struct Message {
+    pub key: Vec<u8>,
+    pub nonce: Vec<u8>,
+    pub aad: Vec<u8>,
+    pub text: Vec<u8>,
+}
+
+impl Message {
+    fn inputs(&self) -> [(&'static str, &[u8]); 4] {
+        [
+            ("key", &self.key),
+            ("nonce", &self.nonce),
+            ("aad", &self.aad),
+            ("text", &self.text),
+        ]
+    }
+}
+
+/// All that calls are lent for writing: the state, the output or slip, the tag
+/// of an encryption, the count, the offset and the verdict. A call is lent some
+/// of them, and must leave the others.
 #[derive(Clone, PartialEq, Eq)]
 pub struct Lent {
     pub state: StateBytes,
     pub out: Vec<u8>,
+    pub tag: Vec<u8>,
     pub count: u64,
     pub offset: u64,
     pub verdict: u8,
@@ -149,6 +190,11 @@ impl Call {
             Call::Gmac { key, nonce, a } => {
                 let inputs = vec![("key", &key[..]), ("nonce", nonce), ("a", a)];
                 ("gmac", inputs, vec![])
+            }
+            Call::GcmEncrypt { message } => ("gcm_encrypt", message.inputs().into(), vec![]),
+            Call::GcmDecrypt { message, tag } => {
+                let inputs = [&message.inputs()[..], &[("tag", tag)]].concat();
+                ("gcm_decrypt", inputs, vec![])
             }
             Call::Start { key, arm, last, n } => {
                 let numbers = vec![("arm", (*arm).into()), ("last", *last), ("n", *n)];
@@ -197,7 +243,7 @@ impl Call {
         &self,
         input: impl Fn(usize) -> &'a [u8],
         state: &mut StateBytes,
-        out: &mut [u8],
+        [out, tag]: [&mut [u8]; 2],
         [count, offset]: [&mut u64; 2],
         verdict: &mut u8,
     ) -> u64 {
@@ -206,6 +252,12 @@ impl Call {
             Call::Multiply { .. } => ffi::multiply(input(0), input(1), out),
             Call::Ghash { .. } => ffi::ghash(input(0), input(1), input(2), out),
             Call::Gmac { .. } => ffi::gmac(input(0), input(1), input(2), out),
+            Call::GcmEncrypt { .. } => {
+                ffi::gcm_encrypt(input(0), input(1), input(2), input(3), out, tag)
+            }
+            Call::GcmDecrypt { .. } => {
+                ffi::gcm_decrypt(input(0), input(1), input(2), input(3), out, input(4))
+            }
             Call::Start { arm, last, n, .. } => ffi::start(input(0), *arm, *last, *n, state),
             Call::Read { arm, last, .. } => ffi::read(input(0), *arm, *last, input(1), state),
             Call::Change { p, .. } => ffi::change(state, *p, input(0), input(1), count),
@@ -230,6 +282,7 @@ impl Call {
         let mut lent_inputs: Vec<Guarded> = inputs.iter().enumerate().map(guard).collect();
         let mut state = Guarded::new("state", &before.state, lead);
         let mut out = Guarded::new("out", &before.out, (lead + 3) % 16);
+        let mut tag = Guarded::new("tag", &before.tag, (lead + 7) % 16);
         let mut verdict = Guarded::new("verdict", &[before.verdict], lead);
         let mut numbers = [CANARY, before.count, CANARY, before.offset, CANARY];
 
@@ -237,8 +290,9 @@ impl Call {
         let lent = state.bytes_mut().try_into().expect("84 bytes");
         let [_, count, _, offset, _] = &mut numbers;
         let numbers_lent = [count, offset];
+        let outputs = [out.bytes_mut(), tag.bytes_mut()];
         let written = &mut verdict.bytes_mut()[0];
-        let answer = self.answered(input, lent, out.bytes_mut(), numbers_lent, written);
+        let answer = self.answered(input, lent, outputs, numbers_lent, written);
 
         for (guarded, (_, bytes)) in lent_inputs.iter_mut().zip(&inputs) {
             guarded.unaltered(bytes)?;
@@ -250,6 +304,7 @@ impl Call {
         let after = Lent {
             state: state.after()?.try_into().expect("84 bytes"),
             out: out.after()?.to_vec(),
+            tag: tag.after()?.to_vec(),
             count,
             offset,
             verdict: verdict.after()?[0],
@@ -288,9 +343,7 @@ impl fmt::Display for Call {
             write!(f, ", {name} = {number}")?;
         }
         for (name, bytes) in inputs {
-            let (shown, more) = bytes.split_at(bytes.len().min(SHOWN));
-            let rest = if more.is_empty() { "" } else { ".." };
-            write!(f, ", {name} = {}{rest} ({} bytes)", hex(shown), bytes.len())?;
+            write!(f, ", {name} = {} ({} bytes)", shown(bytes), bytes.len())?;
         }
         Ok(())
     }
@@ -302,6 +355,7 @@ impl Lent {
         Lent {
             state: [0xee; STATE_BYTES],
             out: Vec::new(),
+            tag: Vec::new(),
             count: UNWRITTEN,
             offset: UNWRITTEN,
             verdict: 0xee,
@@ -322,11 +376,12 @@ impl Default for Lent {
 
 impl fmt::Display for Lent {
     fn fmt(&self, f: &mut fmt::Formatter) -> fmt::Result {
-        let (state, out) = (hex(&self.state), hex(&self.out));
+        let (state, out, tag) = (hex(&self.state), shown(&self.out), hex(&self.tag));
         let (count, offset, verdict) = (self.count, self.offset, self.verdict);
         write!(
             f,
-            "state {state}, out '{out}', count {count}, offset {offset}, verdict {verdict}"
+            "state {state}, out '{out}', tag '{tag}', count {count}, offset {offset}, \
+             verdict {verdict}"
         )
     }
 }

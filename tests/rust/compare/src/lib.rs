@@ -15,7 +15,7 @@ pub mod call;
 pub mod case;
 pub mod guarded;
 
-pub use call::{Call, Lent};
+pub use call::{Call, Lent, Message};
 pub use case::Case;
 
 /// Bytes in hexadecimal.

@@ -9,14 +9,14 @@
 use std::sync::OnceLock;
 
 use armfile::ffi::c;
-use armfile::{MAX_BYTES, MAX_JOURNAL_BYTES, SLIP_BYTES};
-use reference::calls::{block_refusal, ghash_refusal, gmac_refusal};
+use armfile::{MAX_BYTES, MAX_JOURNAL_BYTES, MAX_TEXT_BYTES, SLIP_BYTES};
+use reference::calls::{block_refusal, gcm_refusal, ghash_refusal, gmac_refusal};
 use reference::journal::{
     replay_refusal, Edit, Head, APPEND, CHANGE, CUT_TAIL, DROP_FRONT, PREPEND,
 };
 use reference::refusal::{
     refuse, too_long, whole_sum, BAD_BUFFER, NOT_SIXTEEN, NOT_WHOLE, OUTSIDE, TOO_LONG, UNEQUAL,
-    USED_UP,
+    USED_UP, WRONG_TAG,
 };
 use reference::State;
 
@@ -39,6 +39,9 @@ const LIMIT: usize = MAX_BYTES as usize;
 /// Lengths of keys and blocks, and of outputs: 16 in their lowest bits among
 /// them.
 const SIZES: [usize; 5] = [15, 16, 17, (1 << 32) + 16, (1 << 61) + 16];
+
+/// The longest text to encrypt or to decrypt.
+const TEXT_LIMIT: usize = MAX_TEXT_BYTES as usize;
 
 /// Lengths of a file.
 const FILES: [u64; 9] = [
@@ -132,11 +135,20 @@ fn input(length: usize) -> *const u8 {
     forbidden()
 }
 
+/// An output of a length, for which these are the bytes if it is a true one.
+fn output(bytes: &mut [u8; TRUE], length: usize) -> *mut u8 {
+    if length <= TRUE {
+        return bytes.as_mut_ptr();
+    }
+    forbidden()
+}
+
 /// What a call is lent for writing.
 #[derive(Clone, PartialEq, Debug)]
 struct Lent {
     state: [u8; 84],
     out: [u8; TRUE],
+    tag: [u8; TRUE],
     count: u64,
     offset: u64,
     verdict: u8,
@@ -153,6 +165,7 @@ impl Lent {
         Lent {
             state: state.state_bytes(),
             out: [0xee; TRUE],
+            tag: [0xee; TRUE],
             count: 0xeeee,
             offset: 0xeeee,
             verdict: 0xee,
@@ -161,10 +174,12 @@ impl Lent {
 
     /// An output of a length.
     fn out(&mut self, length: usize) -> *mut u8 {
-        if length <= TRUE {
-            return self.out.as_mut_ptr();
-        }
-        forbidden()
+        output(&mut self.out, length)
+    }
+
+    /// A tag to be written, of a length.
+    fn tag(&mut self, length: usize) -> *mut u8 {
+        output(&mut self.tag, length)
     }
 }
 
@@ -283,6 +298,70 @@ fn hashes() {
                         // SAFETY: what is claimed is on the forbidden page.
                         unsafe { c::armfile_gmac(k, key, nonce, one, a, two, lent.out(size), size) }
                     });
+                }
+            }
+        }
+    }
+}
+
+/// Both calls of GCM, on arguments of these lengths: key, nonce, associated
+/// data, text, output and tag. No tag lent here fits.
+fn gcm(lengths: [usize; 6]) {
+    let [key, nonce, aad, text, out, tag] = lengths;
+    let [k, n, a, t, given] = [key, nonce, aad, text, tag].map(input);
+    let claimed = lengths.into_iter().any(|length| length > TRUE);
+    let by_length = gcm_refusal(lengths.map(wide));
+    let name = format!("gcm_encrypt of {lengths:?}");
+    expect(&name, by_length, claimed, &Lent::of(0), |lent| {
+        let (o, made) = (lent.out(out), lent.tag(tag));
+        // SAFETY: what is claimed is on the forbidden page.
+        unsafe { c::armfile_gcm_encrypt(k, key, n, nonce, a, aad, t, text, o, out, made, tag) }
+    });
+    let name = format!("gcm_decrypt of {lengths:?}");
+    let expected = if claimed {
+        by_length
+    } else {
+        by_length.and(Err(WRONG_TAG))
+    };
+    expect(&name, expected, claimed, &Lent::of(0), |lent| {
+        let o = lent.out(out);
+        // SAFETY: what is claimed is on the forbidden page.
+        unsafe { c::armfile_gcm_decrypt(k, key, n, nonce, a, aad, t, text, o, out, given, tag) }
+    });
+}
+
+/// Each length of GCM in turn, the others right. Text and output have the same.
+#[test]
+fn gcm_lengths() {
+    for length in SIZES {
+        gcm([length, 12, 20, 40, 40, 16]);
+        gcm([16, 12, 20, 40, 40, length]);
+    }
+    for length in LENGTHS {
+        gcm([16, length, 20, 40, 40, 16]);
+        gcm([16, 12, length, 40, 40, 16]);
+    }
+    let around = [TEXT_LIMIT - 1, TEXT_LIMIT, TEXT_LIMIT + 1, TEXT_LIMIT + 32];
+    for length in LENGTHS.into_iter().chain(around).chain([(1 << 40) + 20]) {
+        gcm([16, 12, 20, length, length, 16]);
+        for other in [length ^ 1, length ^ (1 << 32), length ^ (1 << 36)] {
+            gcm([16, 12, 20, length, other, 16]);
+        }
+    }
+}
+
+/// Every set of GCM's causes: each argument right, or wrong in each way.
+#[test]
+fn gcm_causes() {
+    for key in [15, 16] {
+        for nonce in [0, 12, LIMIT, LIMIT + 1] {
+            for aad in [20, LIMIT, LIMIT + 1] {
+                for text in [0, 40, TEXT_LIMIT, TEXT_LIMIT + 1, LIMIT + 1] {
+                    for more in [0, 1] {
+                        for tag in [16, 17] {
+                            gcm([key, nonce, aad, text, text + more, tag]);
+                        }
+                    }
                 }
             }
         }

@@ -6,11 +6,11 @@
 
 use armfile::Refusal::JournalLength;
 use armfile::{Replayed, State};
-use reference::field::{add, multiply, power, seek_steps, Block};
+use reference::field::{add, multiply, power, seek_steps, Block, ZERO};
 use reference::ghash::{block_count, blocks_of, hash_key, pair_block};
 use reference::journal::Edit;
 use reference::random::Random;
-use reference::{aes, state};
+use reference::{aes, gcm, state};
 
 /// Bytes that are zero but for the first block and the last, which is short.
 fn sparse(random: &mut Random, n: usize) -> Vec<u8> {
@@ -20,8 +20,11 @@ fn sparse(random: &mut Random, n: usize) -> Vec<u8> {
     bytes
 }
 
-/// The sum of such bytes: the first block weighs H^m, the last H.
+/// The sum of such bytes, or of none: the first block weighs H^m, the last H.
 fn sum(h: &Block, bytes: &[u8]) -> Block {
+    if bytes.is_empty() {
+        return ZERO;
+    }
     let first = blocks_of(&bytes[..16])[0];
     let last = blocks_of(&bytes[bytes.len() / 16 * 16..])[0];
     let m = block_count(bytes.len() as u64);
@@ -29,15 +32,12 @@ fn sum(h: &Block, bytes: &[u8]) -> Block {
     add(&weighed, &multiply(&last, h))
 }
 
-/// GHASH of such bytes as A, or as C, and of nothing as the other.
-fn hash(h: &Block, bytes: &[u8], as_c: bool) -> Block {
-    let bits = 8 * bytes.len() as u64;
-    let lengths = if as_c {
-        pair_block(0, bits)
-    } else {
-        pair_block(bits, 0)
-    };
-    multiply(&add(&sum(h, bytes), &lengths), h)
+/// GHASH of such A and C: A's sum weighs H to the number of C's blocks.
+fn hash(h: &Block, a: &[u8], c: &[u8]) -> Block {
+    let [a_length, c_length] = [a, c].map(|bytes| bytes.len() as u64);
+    let weighed = multiply(&sum(h, a), &power(h, block_count(c_length).into()));
+    let lengths = pair_block(8 * a_length, 8 * c_length);
+    multiply(&add(&add(&weighed, &sum(h, c)), &lengths), h)
 }
 
 /// Each input of this length in turn.
@@ -46,17 +46,18 @@ fn counted(n: usize) {
     let bytes = sparse(&mut random, n);
     let (key, mut out) = (random.block(), [0; 16]);
     armfile::ghash(&key, &bytes, &[], &mut out).expect("a hash");
-    assert_eq!(out, hash(&key, &bytes, false), "A");
+    assert_eq!(out, hash(&key, &bytes, &[]), "A");
     armfile::ghash(&key, &[], &bytes, &mut out).expect("a hash");
-    assert_eq!(out, hash(&key, &bytes, true), "C");
+    assert_eq!(out, hash(&key, &[], &bytes), "C");
 
     let h = hash_key(&key);
     let mut first_counter = *b"a short one.\0\0\0\x01";
     armfile::gmac(&key, &first_counter[..12], &bytes, &mut out).expect("a tag");
     let mask = aes::encrypt(&key, &first_counter);
-    assert_eq!(out, add(&hash(&h, &bytes, false), &mask), "a message");
+    assert_eq!(out, add(&hash(&h, &bytes, &[]), &mask), "a message");
+    carried(&key, &first_counter, &bytes);
     armfile::gmac(&key, &bytes, &[], &mut out).expect("a tag");
-    first_counter = hash(&h, &bytes, true);
+    first_counter = hash(&h, &[], &bytes);
     assert_eq!(out, aes::encrypt(&key, &first_counter), "a nonce");
 
     let read = State::read(&key, 5, 6, &bytes).expect("a state");
@@ -66,6 +67,22 @@ fn counted(n: usize) {
     };
     assert_eq!(read.as_bytes(), &expected.state_bytes(), "a file");
     replayed(&key, &bytes, &expected);
+}
+
+/// Such bytes as associated data and as ciphertext, under a nonce of 12 bytes:
+/// decrypted, and encrypted again.
+fn carried(key: &Block, first_counter: &Block, bytes: &[u8]) {
+    let nonce = &first_counter[..12];
+    let mask = aes::encrypt(key, first_counter);
+    let expected = add(&hash(&hash_key(key), bytes, bytes), &mask);
+    let mut plain = vec![0; bytes.len()];
+    armfile::gcm_decrypt(key, nonce, bytes, bytes, &mut plain, &expected).expect("a text");
+    let text = gcm::counter_mode(key, &gcm::next_counter(first_counter), bytes);
+    assert!(plain == text, "a text");
+    let (mut again, mut tag) = (vec![0; bytes.len()], [0; 16]);
+    armfile::gcm_encrypt(key, nonce, bytes, &plain, &mut again, &mut tag).expect("a text");
+    assert!(again == bytes, "a ciphertext");
+    assert_eq!(tag, expected, "a ciphertext's tag");
 }
 
 /// A journal that appends such bytes to an empty file and has one byte more.
@@ -89,14 +106,10 @@ fn short_inputs() {
     let mut random = Random::for_test(12);
     for n in [17, 31, 33, 4097] {
         let (h, bytes) = (random.block(), sparse(&mut random, n));
-        assert_eq!(
-            hash(&h, &bytes, false),
-            reference::ghash::ghash(&h, &bytes, &[])
-        );
-        assert_eq!(
-            hash(&h, &bytes, true),
-            reference::ghash::ghash(&h, &[], &bytes)
-        );
+        let more = sparse(&mut random, n + 30);
+        for (a, c) in [(&bytes[..], &[][..]), (&[], &bytes), (&bytes, &more)] {
+            assert_eq!(hash(&h, a, c), reference::ghash::ghash(&h, a, c));
+        }
     }
     counted(4097);
 }

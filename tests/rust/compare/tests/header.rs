@@ -35,7 +35,7 @@ fn number(text: &str) -> u64 {
 /// All of the header's numbers, and no other.
 #[test]
 fn names_and_numbers() {
-    let refusals: [(&str, Refusal, u64); 12] = [
+    let refusals: [(&str, Refusal, u64); 14] = [
         (
             "KEY_OR_BLOCK_LENGTH",
             KeyOrBlockLength,
@@ -52,6 +52,8 @@ fn names_and_numbers() {
         ("JOURNAL_LENGTH", JournalLength, refusal::BAD_JOURNAL),
         ("RECORD_KIND", RecordKind, refusal::BAD_KIND),
         ("RECORD_PLACE", RecordPlace, refusal::BAD_PLACE),
+        ("TEXT_TOO_LONG", TextTooLong, refusal::TEXT_TOO_LONG),
+        ("WRONG_TAG", WrongTag, refusal::WRONG_TAG),
     ];
     let mut expected = BTreeMap::from([
         ("OK", 0),
@@ -62,6 +64,7 @@ fn names_and_numbers() {
         ("BLOCK_BYTES", armfile::BLOCK_BYTES as u64),
         ("MAX_BYTES", armfile::MAX_BYTES),
         ("MAX_JOURNAL_BYTES", armfile::MAX_JOURNAL_BYTES),
+        ("MAX_TEXT_BYTES", armfile::MAX_TEXT_BYTES),
         ("SLIP_FORMAT", armfile::SLIP_FORMAT.into()),
     ]);
     for (name, refusal, number) in refusals {
@@ -73,5 +76,6 @@ fn names_and_numbers() {
     assert_eq!(armfile::SLIP_BYTES, slip::SLIP_BYTES);
     assert_eq!(armfile::MAX_BYTES, refusal::MAX_BYTES);
     assert_eq!(armfile::MAX_JOURNAL_BYTES, refusal::MAX_JOURNAL_BYTES);
+    assert_eq!(armfile::MAX_TEXT_BYTES, refusal::MAX_TEXT_BYTES);
     assert_eq!(u64::from(armfile::SLIP_FORMAT), slip::VERSION);
 }

@@ -5,9 +5,14 @@
 
 use std::collections::BTreeMap;
 
-use armfile::{encrypt, ghash, gmac};
+use armfile::{encrypt, ffi, ghash, gmac};
 use compare::say;
-use vectors::{aes_128_blocks, records, Record};
+use vectors::{aes_128_blocks, records, Gcm, Record};
+
+const GCM: Gcm = Gcm {
+    encrypt: ffi::gcm_encrypt,
+    decrypt: ffi::gcm_decrypt,
+};
 
 type Block = [u8; 16];
 
@@ -65,13 +70,15 @@ fn tag_fits(record: &Record) -> bool {
     computed[..] == tag
 }
 
-/// The cases of a file: for each nonce length in bits how many go through
-/// GMAC and how many have a ciphertext, and how many of all must not fit.
+/// The cases of a file, each of which goes through encryption and decryption:
+/// for each nonce length in bits how many have no text, so that their tag is
+/// GMAC's, and how many have one; and how many of all must not fit.
 fn gcm(file: &str) -> (BTreeMap<usize, (usize, usize)>, usize) {
     let mut counts = BTreeMap::new();
     let mut fails = 0;
     for record in &records(file) {
         assert_eq!(tag_fits(record), !record.fails, "{:?}", record.values);
+        GCM.hold(record);
         let count: &mut (usize, usize) = counts.entry(record.number("ivlen")).or_default();
         if record.number("ptlen") == 0 {
             count.0 += 1;
@@ -82,7 +89,7 @@ fn gcm(file: &str) -> (BTreeMap<usize, (usize, usize)>, usize) {
     }
     for (ivlen, (gmacs, others)) in &counts {
         say(&format!(
-            "{file}, nonce of {ivlen} bits: {gmacs} by GMAC, {others} by GHASH and AES"
+            "{file}, nonce of {ivlen} bits: {gmacs} cases with no text, {others} with one"
         ));
     }
     say(&format!("{file}: {fails} cases that must not fit"));

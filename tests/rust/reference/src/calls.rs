@@ -1,10 +1,15 @@
-//! The block calls on slices, with document 01's refusals in their order.
-//! A refused call leaves its output as before.
+//! The calls without a state on slices, with the refusals of document 01, and
+//! of document 02, Q-2, in their order. A refused call leaves its outputs as
+//! before.
 
 use crate::aes;
 use crate::field::{self, Block};
+use crate::gcm;
 use crate::ghash;
-use crate::refusal::{refuse, too_long, BAD_BUFFER, EMPTY_NONCE, NOT_SIXTEEN, TOO_LONG};
+use crate::refusal::{
+    refuse, too_long, BAD_BUFFER, EMPTY_NONCE, MAX_TEXT_BYTES, NOT_SIXTEEN, TEXT_TOO_LONG,
+    TOO_LONG, WRONG_TAG,
+};
 
 /// The refusal of a block call, from the lengths alone: 1, 7.
 pub fn block_refusal(first: u64, second: u64, out: u64) -> Result<(), u64> {
@@ -33,6 +38,18 @@ pub fn gmac_refusal(key: u64, nonce: u64, a: u64, out: u64) -> Result<(), u64> {
     ])
 }
 
+/// The refusal of GCM, from the lengths of its six arguments alone: 1, 9, 7,
+/// 2, 13.
+pub fn gcm_refusal([key, nonce, a, text, out, tag]: [u64; 6]) -> Result<(), u64> {
+    refuse(&[
+        (key != 16, NOT_SIXTEEN),
+        (nonce == 0, EMPTY_NONCE),
+        (tag != 16 || text != out, BAD_BUFFER),
+        (too_long(nonce.into()) || too_long(a.into()), TOO_LONG),
+        (text > MAX_TEXT_BYTES, TEXT_TOO_LONG),
+    ])
+}
+
 /// AES(key, block).
 pub fn encrypt(key: &[u8], block: &[u8], out: &mut [u8]) -> Result<(), u64> {
     block_refusal(size(key), size(block), size(out))?;
@@ -58,6 +75,38 @@ pub fn ghash(h: &[u8], a: &[u8], c: &[u8], out: &mut [u8]) -> Result<(), u64> {
 pub fn gmac(key: &[u8], nonce: &[u8], a: &[u8], out: &mut [u8]) -> Result<(), u64> {
     gmac_refusal(size(key), size(nonce), size(a), size(out))?;
     out.copy_from_slice(&ghash::gmac(&sixteen(key), nonce, a));
+    Ok(())
+}
+
+/// The text encrypted, and its tag.
+pub fn gcm_encrypt(
+    key: &[u8],
+    nonce: &[u8],
+    a: &[u8],
+    text: &[u8],
+    out: &mut [u8],
+    tag: &mut [u8],
+) -> Result<(), u64> {
+    gcm_refusal([key, nonce, a, text, out, tag].map(size))?;
+    let (encrypted, computed) = gcm::encrypt(&sixteen(key), nonce, a, text);
+    out.copy_from_slice(&encrypted);
+    tag.copy_from_slice(&computed);
+    Ok(())
+}
+
+/// The text decrypted, where the tag fits; 14, after the other refusals, where
+/// it doesn't.
+pub fn gcm_decrypt(
+    key: &[u8],
+    nonce: &[u8],
+    a: &[u8],
+    text: &[u8],
+    out: &mut [u8],
+    tag: &[u8],
+) -> Result<(), u64> {
+    gcm_refusal([key, nonce, a, text, out, tag].map(size))?;
+    let decrypted = gcm::decrypt(&sixteen(key), nonce, a, text, &sixteen(tag)).ok_or(WRONG_TAG)?;
+    out.copy_from_slice(&decrypted);
     Ok(())
 }
 

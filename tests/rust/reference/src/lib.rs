@@ -1,19 +1,20 @@
 //! A plain second implementation of the arm file seal of document 01, and of
-//! the edit journal of document 02, Q-1.
+//! document 02's edit journal, Q-1, and GCM, Q-2.
 //!
-//! FIPS 197 decides for AES, NIST SP 800-38D for the field, GHASH and GMAC,
-//! and the two documents for everything else. Clear code is preferred to fast
-//! code.
+//! FIPS 197 decides for AES, NIST SP 800-38D for the field, GHASH, GMAC and
+//! GCM, and the two documents for everything else. Clear code is preferred to
+//! fast code.
 //!
 //! - `aes`: the cipher.
 //! - `field`: blocks and their arithmetic.
 //! - `ghash`: the running sum, GHASH and GMAC.
+//! - `gcm`: encryption and decryption of a text, over `aes` and `ghash`.
 //! - `bits`: numbers in bytes, packed most significant bit first.
 //! - `slip`: the 36 bytes of a slip.
 //! - `state`: the controller, by document 01's formulas.
 //! - `journal`: the records of a journal, and their replay.
 //! - `machine`: the plain machine, from the bytes alone.
-//! - `calls`: the block calls on slices, with their refusals.
+//! - `calls`: the calls without a state on slices, with their refusals.
 //! - `refusal`: the causes and their numbers.
 //! - `random`: a small repeatable random generator for tests, and the bytes
 //!   that tests of edits choose with it.
@@ -22,6 +23,7 @@ pub mod aes;
 pub mod bits;
 pub mod calls;
 pub mod field;
+pub mod gcm;
 pub mod ghash;
 pub mod journal;
 pub mod machine;

@@ -1,4 +1,5 @@
-//! Document 01, "Causes and their numbers", and those of document 02, Q-1.
+//! Document 01, "Causes and their numbers", and those of document 02, Q-1 and
+//!
 
 /// Key, hash key or block not 16 bytes.
 pub const NOT_SIXTEEN: u64 = 1;
@@ -12,7 +13,8 @@ pub const UNEQUAL: u64 = 4;
 pub const NOT_WHOLE: u64 = 5;
 /// Last used number is 2^64 - 1.
 pub const USED_UP: u64 = 6;
-/// Slip not 36 bytes, or tag or block output not 16.
+/// Slip not 36 bytes, tag or block output not 16, or text and output of
+/// different lengths.
 pub const BAD_BUFFER: u64 = 7;
 /// Slip version not 1.
 pub const BAD_VERSION: u64 = 8;
@@ -24,12 +26,19 @@ pub const BAD_JOURNAL: u64 = 10;
 pub const BAD_KIND: u64 = 11;
 /// Record's p not zero outside a change.
 pub const BAD_PLACE: u64 = 12;
+/// Text over 2^36 - 32 bytes.
+pub const TEXT_TOO_LONG: u64 = 13;
+/// Tag doesn't fit.
+pub const WRONG_TAG: u64 = 14;
 
 /// The largest byte length of a file, of A, of C and of a nonce.
 pub const MAX_BYTES: u64 = (1 << 61) - 1;
 
 /// The largest byte length of a journal.
 pub const MAX_JOURNAL_BYTES: u64 = 1 << 40;
+
+/// The largest byte length of a text to encrypt or to decrypt.
+pub const MAX_TEXT_BYTES: u64 = (1 << 36) - 32;
 
 /// Refuses with the number of the first cause that holds, if one does.
 pub fn refuse(causes: &[(bool, u64)]) -> Result<(), u64> {

@@ -1,6 +1,7 @@
-//! Reads the published vectors: those of FIPS 197 and NIST for AES-128, which
-//! are the input of the program crates/cipher_vectors, and NIST's for GCM with
-//! a key of 128 bits, which stand beside this crate's source.
+//! Reads the published vectors and holds calls to them: those of FIPS 197 and
+//! NIST for AES-128, which are the input of the program crates/cipher_vectors,
+//! and NIST's for GCM with a key of 128 bits, which stand beside this crate's
+//! source.
 
 use std::collections::HashMap;
 
@@ -67,6 +68,74 @@ pub fn aes_128_blocks(encrypt: impl Fn(&[u8; 16], &[u8; 16]) -> [u8; 16]) -> usi
         }
     }
     blocks
+}
+
+/// GCM encryption on slices: key, nonce, associated data, text, output and tag.
+/// The answer is 0 or a refusal's number.
+pub type Encrypt = fn(&[u8], &[u8], &[u8], &[u8], &mut [u8], &mut [u8]) -> u64;
+
+/// GCM decryption, which only reads the tag.
+pub type Decrypt = fn(&[u8], &[u8], &[u8], &[u8], &mut [u8], &[u8]) -> u64;
+
+/// The two calls of GCM, to be held to the published cases.
+pub struct Gcm {
+    pub encrypt: Encrypt,
+    pub decrypt: Decrypt,
+}
+
+/// Lengths of tags that the standard has besides 16 bytes, and none.
+const SHORTER_TAGS: [usize; 7] = [0, 4, 8, 12, 13, 14, 15];
+
+/// What an output holds before the call.
+const UNTOUCHED: u8 = 0xee;
+
+impl Gcm {
+    /// Holds both calls to a case. The ciphertext's own tag is accepted and
+    /// gives the plaintext; a published tag that must not fit is refused with
+    /// 14, and one cut short with 7, and the output is then untouched.
+    pub fn hold(&self, record: &Record) {
+        let shown = &record.values;
+        let [_, _, c] = record.nonce_a_c();
+        // To encrypt twice adds the key stream twice, which is nothing: so the
+        // plaintext is found where none is published, too.
+        let (plain, _) = self.encrypted(record, &c);
+        let (again, tag) = self.encrypted(record, &plain);
+        assert_eq!(again, c, "{shown:?}");
+        if !record.fails {
+            assert_eq!(plain, record.bytes("pt"), "{shown:?}");
+        }
+        let given = record.bytes("tag");
+        assert_eq!(tag == given, !record.fails, "{shown:?}");
+
+        let untouched = vec![UNTOUCHED; c.len()];
+        if record.fails {
+            let refused = (14, untouched.clone());
+            assert_eq!(self.decrypted(record, &given), refused, "{shown:?}");
+        }
+        for size in SHORTER_TAGS {
+            let answer = self.decrypted(record, &tag[..size]);
+            assert_eq!(answer, (7, untouched.clone()), "{shown:?}");
+        }
+        assert_eq!(self.decrypted(record, &tag), (0, plain), "{shown:?}");
+    }
+
+    /// A text encrypted, and its tag.
+    fn encrypted(&self, record: &Record, text: &[u8]) -> (Vec<u8>, Vec<u8>) {
+        let [nonce, a, _] = record.nonce_a_c();
+        let (mut out, mut tag) = (vec![0; text.len()], vec![0; 16]);
+        let answer = (self.encrypt)(&record.key(), &nonce, &a, text, &mut out, &mut tag);
+        assert_eq!(answer, 0, "{:?}", record.values);
+        (out, tag)
+    }
+
+    /// The answer to the decryption of the ciphertext under a tag, and the
+    /// output.
+    fn decrypted(&self, record: &Record, tag: &[u8]) -> (u64, Vec<u8>) {
+        let [nonce, a, c] = record.nonce_a_c();
+        let mut out = vec![UNTOUCHED; c.len()];
+        let answer = (self.decrypt)(&record.key(), &nonce, &a, &c, &mut out, tag);
+        (answer, out)
+    }
 }
 
 /// The records of a file, by its path from this crate's directory. An empty

@@ -8,6 +8,13 @@ pub const LENGTHS: [usize; 23] = [
     0, 1, 2, 11, 12, 13, 15, 16, 17, 31, 32, 33, 47, 48, 49, 63, 64, 65, 128, 255, 256, 257, 1025,
 ];
 
+/// Lengths of a text to encrypt: around those of blocks, and of batches of
+/// blocks, up to some KiB.
+pub const TEXTS: [usize; 31] = [
+    0, 1, 15, 16, 17, 31, 32, 33, 127, 128, 129, 239, 240, 241, 255, 256, 257, 271, 272, 273, 511,
+    512, 513, 767, 768, 769, 1_024, 1_025, 4_096, 4_097, 10_239,
+];
+
 /// Byte lengths around those of pages and of usual buffers, and far past them.
 pub const LONG: [usize; 9] = [
     2_000, 2_001, 4_096, 4_097, 10_000, 65_536, 65_537, 100_003, 300_007,

@@ -4,6 +4,7 @@ use armfile::SLIP_BYTES;
 use compare::{Call, Case, Lent};
 
 use crate::choose::{output, LONG};
+use crate::gcm;
 use crate::journals::{replay, singly};
 
 /// Every input of the case's length, one at a time, beside short ones, and a
@@ -11,6 +12,10 @@ use crate::journals::{replay, singly};
 pub fn inputs(case: &mut Case) {
     let long = LONG[case.index() as usize];
     hashes(case, long);
+    for [nonce, aad, text] in [[12, 20, long], [13, long, 30], [long, 0, 300]] {
+        let message = gcm::some_message(case, nonce, aad, text);
+        gcm::carried(case, &message);
+    }
     let short = case.random.below(100) as usize;
     let lent = read(case, short);
     let bytes = case.random.bytes(long);

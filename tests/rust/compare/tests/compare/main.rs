@@ -6,6 +6,7 @@
 mod blocks;
 mod choose;
 mod edits;
+mod gcm;
 mod journals;
 mod lists;
 mod long;
@@ -47,6 +48,17 @@ const PARTS: &[Part] = &[
     ("every kind of head", 112, journals::every_head),
     ("journals of any records", 3_000, journals::of_any_records),
     ("a journal of many records", 1, journals::of_many_records),
+    ("gcm, texts of every length", 1_060, gcm::every_text),
+    ("gcm, edge lengths", 31, gcm::edge_lengths),
+    ("gcm, nonces of every length", 50, gcm::every_nonce),
+    ("gcm, random lengths", 2_000, gcm::random_lengths),
+    ("gcm, no text", 300, gcm::no_text),
+    ("gcm, one bit turned", 12, gcm::one_bit_turned),
+    ("gcm, one bit of many turned", 1, gcm::one_bit_of_many),
+    ("gcm, borders moved", 40, gcm::borders_moved),
+    ("gcm, wrong lengths", 13, gcm::wrong_lengths),
+    ("gcm, sets of causes", 32, gcm::sets_of_causes),
+    ("gcm, counters that wrap", 54, gcm::counters_wrap),
 ];
 
 fn main() {
