@@ -1,5 +1,6 @@
-/* A file's life with the library: taken in by pieces, edited, sealed, put away, taken out again and checked. */
+/* A file's life with the library: taken in by pieces, edited, sealed, put away, taken out again and checked; and sent unread. */
 #include <stdio.h>
+#include <string.h>
 #include "armfile.h"
 
 #define ARM 7
@@ -7,6 +8,7 @@
 
 static const uint8_t key[ARMFILE_BLOCK_BYTES] = { 1, 2, 3, 4, 5, 6, 7, 8, 9, 10, 11, 12, 13, 14, 15, 16 };
 static const uint8_t head[] = "; arm 7, cell 3\n", line[] = "G1 X10 Y20 Z30\n", line_2[] = "G1 X11 Y20 Z30\n";
+static const uint8_t carrying_key[ARMFILE_BLOCK_BYTES] = { 16, 15, 14, 13, 12, 11, 10, 9, 8, 7, 6, 5, 4, 3, 2, 1 }; /* it seals nothing */
 static const uint8_t old[] = "X10", new_[] = "X12", left[] = "G1 X12 Y20 Z30\n";
 
 /* What is put away: the state, which is secret, and the slip, which is not. */
@@ -68,6 +70,25 @@ static int put_away(const struct stored *from, struct stored *to)
 	return !fine;
 }
 
+/* Sends the file unread, and reads it where it arrives. One bit altered on the way, and it is refused: no text comes of it. */
+static int carry(void)
+{
+	uint8_t nonce[12] = { 0 }; /* a number that is counted up, and stored before it is used */
+	uint8_t carried[sizeof left - 1], text[sizeof left - 1], tag[ARMFILE_BLOCK_BYTES];
+
+	nonce[11] = 1;
+	if (refused("gcm_encrypt", armfile_gcm_encrypt(carrying_key, sizeof carrying_key, nonce, sizeof nonce, TEXT(head), TEXT(left), carried,
+		sizeof carried, tag, sizeof tag))
+	    || refused("gcm_decrypt", armfile_gcm_decrypt(carrying_key, sizeof carrying_key, nonce, sizeof nonce, TEXT(head), carried,
+		sizeof carried, text, sizeof text, tag, sizeof tag))
+	    || memcmp(text, left, sizeof text))
+		return 1;
+	wipe(text, sizeof text);
+	carried[0] ^= 1;
+	return armfile_gcm_decrypt(carrying_key, sizeof carrying_key, nonce, sizeof nonce, TEXT(head), carried, sizeof carried, text,
+		sizeof text, tag, sizeof tag) != ARMFILE_WRONG_TAG;
+}
+
 int main(void)
 {
 	struct stored kept, back;
@@ -80,7 +101,8 @@ int main(void)
 	/* The slip fits the state that was put away, and the state of one who reads the file whole. */
 	if (refused("check", armfile_check(back.state, back.slip, sizeof back.slip, &verdict))
 	    || refused("read", armfile_read(key, sizeof key, ARM, 0, TEXT(left), reader))
-	    || refused("check", armfile_check(reader, back.slip, sizeof back.slip, &of_reader)))
+	    || refused("check", armfile_check(reader, back.slip, sizeof back.slip, &of_reader))
+	    || carry())
 		return 1;
 	wipe(kept.state, sizeof kept.state);
 	wipe(back.state, sizeof back.state);

@@ -15,9 +15,10 @@ use Rattle.gcm.specs.Answers.{gmacRefusal, gmacOutput, gcmRefusal, Encry
 use Rattle.gcm.specs.Contracts.{encryptResult, decryptResult}
 use Rattle.gcm.specs.GcmTheorem.{GcmTheorem}
 use Rattle.gcm.proofs.CounterLaws.{length-GCTR, GCTR-twice}
+use Rattle.gcm.proofs.Comparing.{same-or-not}
 use Rattle.gcm.proofs.Refusals.{no-text, gcm-accepted, gcm-accepts}
 use Rattle.gcm.proofs.GmacLaws.{gmac-kept, gmac-written}
-use Rattle.gcm.proofs.TextLaws.{tag-sum, length-tag, same-or-not, lengths-supported, AD-fits, encrypted-refused, encrypted-done}
+use Rattle.gcm.proofs.TextLaws.{tag-sum, length-tag, lengths-supported, AD-fits, encrypted-refused, encrypted-done}
 use Rattle.gcm.proofs.TextLaws.{decrypted-refused, decrypted-wrong, decrypted-fits}
 
 -- ---- a text turned
@@ -149,7 +150,7 @@ gmac-text key nonce a tag = by (zero-or-more (gmacRefusal key nonce a tag))
 -- ---- the theorem
 
 undone : (key iv p a : List ℕ) → supported iv p a ≡ true → GCM-AD key iv (GCM-AE key iv p a .C) a (GCM-AE key iv p a .T) ≡ P p
-unfolding GCM-AE
+unfolding GCM-AE turned tagOfText
 undone key iv p a s = AD-fits key iv a (turned key iv p) _ (supported-turned key iv p a s) refl ∙ ap P (turned-twice key iv p)
 
 pub gcm-theorem : GcmTheorem

@@ -1,8 +1,8 @@
-pub mod Comparing
 pub mod TagLaws
 pub mod Strings
 pub mod CounterLaws
 pub mod Batches
+pub mod Comparing
 pub mod Refusals
 pub mod GmacLaws
 pub mod TextLaws

@@ -1,21 +1,19 @@
--- Texts and their tags: the tag as a sum of blocks, whether two tags are the same, GCM-AD by its tag, and a law for each return of the calls. They
--- rest on the laws of GCTR (`CounterLaws`) and of the refusals (`Refusals`).
+-- Texts and their tags: the tag as a sum of blocks, GCM-AD by its tag, and a law for each return of the calls. They rest on the laws of GCTR
+-- (`CounterLaws`), of tags compared (`Comparing`) and of the refusals (`Refusals`).
 use mathlib.Core.Path.{_≡_, refl, sym, ap, ap₂, _∙_}
-use mathlib.Core.Bool.{Bool, true, false, cond, _&&_, and-false, false≢true}
-use mathlib.Core.Logic.{_⊎_, inl, inr}
-use mathlib.Core.List.{List, [], _∷_}
-use Prim.Native.Nat.{ℕ, zero, suc, _-_, _*_, _^_, _≤_, _<_}
+use mathlib.Core.Bool.{Bool, true, false, cond, _&&_, false≢true}
+use mathlib.Core.List.{List}
+use Prim.Native.Nat.{ℕ, zero, suc, _-_, _*_, _^_, _≤_}
 use native.Mathlib.Omega.{arith}
 use lib.Dec.{eqb}
-use lib.ListN.{length, getD, take, replicate}
+use lib.ListN.{length, take, replicate}
 use lib.Seq.{sets, take-all}
-use borrow.Author.Tests.{eq-eqb, ne-eqb, eqb-true, eqb-false, le-leb}
+use borrow.Author.Tests.{eq-eqb, ne-eqb, le-leb}
 use Rattle.refusals.proofs.Laws.{first-none, first-here, first-later, agree, differ}
 use Rattle.cipher.specs.Aes.{rowsOf}
 use Rattle.field.specs.declared.blocks.Block.{Block}
-use Rattle.field.specs.Field.{value, block, Small, _⊕_, xorBytes, blockAt, bytesOf, blocks, ghash}
-use Rattle.field.proofs.Values.{block-value}
-use Rattle.field.proofs.BlockAt.{length-bytesOf, bytesOf-⊕, small-blockAt, blockAt-bytesOf}
+use Rattle.field.specs.Field.{_⊕_, xorBytes, bytesOf, blocks, ghash}
+use Rattle.field.proofs.BlockAt.{length-bytesOf, bytesOf-⊕}
 use Rattle.field.proofs.BlockCounts.{blocks-times}
 use Rattle.field.proofs.Stores.{stored-all}
 use Rattle.gcm.specs.Gmac.{CIPH, hashKey, J}
@@ -27,7 +25,8 @@ use Rattle.gcm.specs.declared.Answer.{Answer}
 use Rattle.gcm.specs.declared.Answer.the-variants.{Done, Refused}
 use Rattle.gcm.specs.Answers.{gcmRefusal, encrypted, DecryptAnswer, failed, released, decryptRefusal, decrypted}
 use Rattle.gcm.specs.Contracts.{keyStream, Begins, answerRefusal, encryptResult, decryptResult}
-use Rattle.gcm.proofs.CounterLaws.{bytes-again, GCTR-stream}
+use Rattle.gcm.proofs.CounterLaws.{GCTR-stream}
+use Rattle.gcm.proofs.Comparing.{never, equal-true, equal-same}
 use Rattle.gcm.proofs.Refusals.{Accepted, gcm-accepted, refused-pos, done-zero}
 
 -- ---- the tag of a text
@@ -53,62 +52,6 @@ tag-sum key iv c a =
 pub length-tag : (key iv c a : List ℕ) → length (tagOfText key iv c a) ≡ 16
 length-tag key iv c a = ap length (tag-sum key iv c a) ∙ length-bytesOf _
 
--- ---- two tags compared
-
-both : (x y : Bool) → x && y ≡ true → (x ≡ true) × (y ≡ true)
-both true y e = (refl, e)
-both false y e = absurd (false≢true e)
-
--- a test that can't hold doesn't
-never : (x : Bool) → (x ≡ true → ⊥) → x ≡ false
-never true h = absurd (h refl)
-never false h = refl
-
-equal-true : (s t : List ℕ) → equal s t ≡ true → s ≡ t
-unfolding equal
-equal-true [] [] e = refl
-equal-true [] (b ∷ t) e = absurd (false≢true e)
-equal-true (a ∷ s) [] e = absurd (false≢true e)
-equal-true (a ∷ s) (b ∷ t) e =
-    let p = both (eqb a b) (equal s t) e in
-    ap₂ (λ (x : ℕ) (l : List ℕ). x ∷ l) (eqb-true a b (p .0)) (equal-true s t (p .1))
-
-equal-same : (s : List ℕ) → equal s s ≡ true
-unfolding equal
-equal-same [] = refl
-equal-same (a ∷ s) = rw (eq-eqb a a refl) (equal-same s)
-
--- two lists are the same or not
-pub same-or-not : (s t : List ℕ) → (s ≡ t) ⊎ (s ≡ t → ⊥)
-same-or-not s t = split (equal s t) refl
-  where
-    split : (b : Bool) → equal s t ≡ b → (s ≡ t) ⊎ (s ≡ t → ⊥)
-    split true e = inl (equal-true s t e)
-    split false e = inr (λ x. false≢true (sym e ∙ ap (equal s) (sym x) ∙ equal-same s))
-
--- sixteen bytes and a block's are the same exactly where they are one number
-equal-number : (t : List ℕ) (b : Block) → length t ≡ 16 → ((i : ℕ) → i < length t → getD t i 0 < 256) → Small b
-    → eqb (value (blockAt t 0)) (value b) ≡ equal t (bytesOf b)
-equal-number t b size bytes small = flag (eqb (value (blockAt t 0)) (value b)) refl
-  where
-    same-block : value (blockAt t 0) ≡ value b → t ≡ bytesOf b
-    same-block e =
-        bytes-again t size bytes
-        ∙ ap bytesOf (sym (block-value (blockAt t 0) (small-blockAt t 0)) ∙ ap block e ∙ block-value b small)
-
-    same-value : t ≡ bytesOf b → value (blockAt t 0) ≡ value b
-    same-value e = ap value (ap (λ (s : List ℕ). blockAt s 0) e ∙ blockAt-bytesOf b small)
-
-    flag : (x : Bool) → eqb (value (blockAt t 0)) (value b) ≡ x → x ≡ equal t (bytesOf b)
-    flag true e = sym (ap (equal t) (sym (same-block (eqb-true _ _ e))) ∙ equal-same t)
-    flag false e = sym (never _ (λ x. eqb-false _ _ e (same-value (equal-true t (bytesOf b) x))))
-
--- so code compares them: g is the given tag as a block, b the right one, whose bytes are u
-pub tag-fits-of : (t : List ℕ) (b : Block) {u : List ℕ} {g : Block} {r : Bool} → length t ≡ 16
-    → ((i : ℕ) → i < length t → getD t i 0 < 256) → Small b → g ≡ blockAt t 0 → r ≡ eqb (value g) (value b) → bytesOf b ≡ u → r ≡ equal t u
-tag-fits-of t b size bytes small eg er eu =
-    er ∙ ap (λ (x : Block). eqb (value x) (value b)) eg ∙ equal-number t b size bytes small ∙ ap (equal t) eu
-
 -- ---- GCM-AD, by the tag
 
 module _ (key nonce a text tag : List ℕ) where
@@ -125,18 +68,30 @@ module _ (key nonce a text tag : List ℕ) where
       some zero f = absurd (f refl)
       some (suc n) f = omega arith
 
+  -- GCM-AD by the parts that it has in common with GCM-AE
+  AD-parts : GCM-AD key nonce text a tag
+      ≡ cond (supported nonce text a && eqb (length tag) 16)
+      (cond (equal tag (tagOfText key nonce text a)) (P (turned key nonce text)) FAIL)
+      FAIL
+  unfolding GCM-AD turned tagOfText
+  AD-parts = refl
+
   pub AD-fits : supported nonce text a ≡ true → tag ≡ tagOfText key nonce text a → GCM-AD key nonce text a tag ≡ P (turned key nonce text)
-  unfolding GCM-AD
   AD-fits s e =
-      ap (λ (b : Bool). cond b (P (turned key nonce text)) FAIL)
-      (ap₂ _&&_ (ap₂ _&&_ s (eq-eqb _ _ (ap length e ∙ length-tag key nonce text a))) (ap (equal tag) (sym e) ∙ equal-same tag))
+      AD-parts
+      ∙ ap₂ (λ (x y : Bool). cond x (cond y (P (turned key nonce text)) FAIL) FAIL)
+      (ap₂ _&&_ s (eq-eqb _ _ (ap length e ∙ length-tag key nonce text a))) (ap (equal tag) (sym e) ∙ equal-same tag)
 
   AD-fails : (tag ≡ tagOfText key nonce text a → ⊥) → GCM-AD key nonce text a tag ≡ FAIL
-  unfolding GCM-AD
   AD-fails f =
-      let x = supported nonce text a && eqb (length tag) 16 in
-      ap (λ (b : Bool). cond b (P (turned key nonce text)) FAIL)
-      (ap (_&&_ x) (never _ (λ e. f (equal-true tag _ e))) ∙ and-false x)
+      AD-parts
+      ∙ ap (λ (x : Bool). cond (supported nonce text a && eqb (length tag) 16) (cond x (P (turned key nonce text)) FAIL) FAIL)
+      (never _ (λ e. f (equal-true tag _ e)))
+      ∙ either (supported nonce text a && eqb (length tag) 16)
+    where
+      either : (x : Bool) → cond x FAIL FAIL ≡ FAIL
+      either true = refl
+      either false = refl
 
 -- ---- encryption, by its lengths
 
@@ -149,7 +104,7 @@ module _ (key nonce a text out tag : List ℕ) where
   pub encrypted-done : gcmRefusal key nonce a text out tag ≡ 0
       → encrypted key nonce a text out tag
       ≡ record { refusal = 0; out = turned key nonce text; tag = tagOfText key nonce (turned key nonce text) a }
-  unfolding encrypted GCM-AE
+  unfolding encrypted GCM-AE turned tagOfText
   encrypted-done z = simp (eq-eqb _ _ z)
 
 -- ---- decryption, by its lengths and its tag

@@ -12,22 +12,20 @@ use Rattle.gcm.specs.Counters.{inc32, GCTR}
 abbrev pub tagBytes : ℕ
 tagBytes = 16
 
--- GCTR_K(inc32(J_0), X): C from P, and P from C (7.1, steps 1 to 3; 7.2, steps 2 to 4)
-unfoldable pub turned : (key iv x : List ℕ) → List ℕ
-turned key iv x = GCTR key (inc32 (J (hashKey key) iv)) x
-
--- MSB_t(GCTR_K(J_0, S)), where S = GHASH_H of A and C, padded, and their lengths: the tag of C and A (7.1, steps 4 to 6; 7.2, steps 5 to 7)
-unfoldable pub tagOfText : (key iv c a : List ℕ) → List ℕ
-tagOfText key iv c a = take tagBytes (GCTR key (J (hashKey key) iv) (bytesOf (ghash (hashKey key) a c)))
-
 -- what GCM-AE returns: the ciphertext C and the tag T (7.1, step 7)
 pub record Ciphertext : Type 0 where
   pub C : List ℕ
   pub T : List ℕ
 
--- GCM-AE_K(IV, P, A) (7.1, Algorithm 4)
+-- GCM-AE_K(IV, P, A), steps 1 to 7 (7.1, Algorithm 4); 4 and 5 are one, for GHASH pads
 unfoldable pub GCM-AE : (key iv p a : List ℕ) → Ciphertext
-GCM-AE key iv p a = record { C = turned key iv p; T = tagOfText key iv (turned key iv p) a }
+GCM-AE key iv p a =
+    let h = hashKey key in
+    let j = J h iv in
+    let c = GCTR key (inc32 j) p in
+    let s = ghash h a c in
+    let t = take tagBytes (GCTR key j (bytesOf s)) in
+    record { C = c; T = t }
 
 -- the lengths in bits that are supported (5.2.1.1): of the text up to 2^39 − 256, of A up to 2^64 − 1, of IV 1 to 2^64 − 1
 unfoldable pub supported : (iv text a : List ℕ) → Bool
@@ -46,8 +44,20 @@ pub data Plaintext : Type 0 where
   P : List ℕ → Plaintext
   FAIL : Plaintext
 
--- GCM-AD_K(IV, C, A, T) (7.2, Algorithm 5): FAIL where a length is not supported, or the tag's is not t (step 1), and where T is not the tag
--- of C and A (step 8)
+-- GCM-AD_K(IV, C, A, T), steps 2 to 8 (7.2, Algorithm 5), where the lengths are supported and T is of t bits, which is step 1; else FAIL
 unfoldable pub GCM-AD : (key iv c a t : List ℕ) → Plaintext
 GCM-AD key iv c a t =
-    cond (supported iv c a && eqb (length t) tagBytes && equal t (tagOfText key iv c a)) (P (turned key iv c)) FAIL
+    let h = hashKey key in
+    let j = J h iv in
+    let p = GCTR key (inc32 j) c in
+    let s = ghash h a c in
+    let t′ = take tagBytes (GCTR key j (bytesOf s)) in
+    cond (supported iv c a && eqb (length t) tagBytes) (cond (equal t t′) (P p) FAIL) FAIL
+
+-- what both have in common, by a name each: the text as steps 1 to 3 (7.1) and 2 to 4 (7.2) turn it
+unfoldable pub turned : (key iv x : List ℕ) → List ℕ
+turned key iv x = GCTR key (inc32 (J (hashKey key) iv)) x
+
+-- and the tag of a ciphertext and A: T by steps 4 to 6 (7.1), T′ by steps 5 to 7 (7.2)
+unfoldable pub tagOfText : (key iv c a : List ℕ) → List ℕ
+tagOfText key iv c a = take tagBytes (GCTR key (J (hashKey key) iv) (bytesOf (ghash (hashKey key) a c)))

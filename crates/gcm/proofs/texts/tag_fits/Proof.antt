@@ -1,7 +1,7 @@
--- `gcm::texts::tag_fits` meets its contract. Two blocks are the same exactly where their bytes are (`TextLaws`).
+-- `gcm::texts::tag_fits` meets its contract. Two blocks are the same exactly where their bytes are (`Comparing`).
 use native.Mathlib.Omega.{arith}
 use borrow.Author.Needs.{needs}
-use Rattle.gcm.proofs.TextLaws.{tag-fits-of}
+use Rattle.gcm.proofs.Comparing.{tag-fits-of}
 use Rattle.gcm.proofs.texts.tag_fits.Statement.{statement}
 use Rattle.gcm.proofs.texts.tag_fits.Tie as tie
 
