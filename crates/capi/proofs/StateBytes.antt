@@ -34,10 +34,6 @@ unfolding stateFrom
 decoded b ek eh ei es en ea el =
     λ j. record { key = record { bytes = ek j }; h = eh j; i = ei j; s = es j; n = en j; arm = ea j; last = el j }
 
--- a key is written as the block that it is read as
-pub key-back : (key : List ℕ) {b : Block} → length key ≡ 16 → AllBytes key → b ≡ blockAt key 0 → bytesOf b ≡ key
-key-back key l small e = ap bytesOf e ∙ bytesOf-blockAt key 0 small (omega arith) ∙ take-all 16 key (omega arith)
-
 -- the fields stored one behind the other are the state's bytes: a after the first store, and so on to g
 pub encoded : (st : State) (out : List ℕ) (k : Block) {a b c d e f g : List ℕ} → length out ≡ stateBytes → bytesOf k ≡ st .key .bytes
     → a ≡ sets out 0 (bytesOf k) → b ≡ sets a 16 (bytesOf (st .h)) → c ≡ sets b 32 (bytesOf (st .i)) → d ≡ sets c 48 (bytesOf (st .s))

@@ -6,6 +6,7 @@ use Prim.Native.Nat.{ℕ, suc, _+_, _*_, _^_, _≤_, _<_}
 use native.Mathlib.Nat.{mod-eq-of-lt}
 use native.Mathlib.Omega.{arith}
 use lib.ListN.{length, getD, take, drop, replicate}
+use lib.Seq.{take-all}
 use Rattle.field.specs.declared.blocks.Block.{Block}
 use Rattle.field.specs.Bytes.{number, bytes, xorBytes}
 use Rattle.field.specs.Blocks.{_⊕_, zeroBlock, Small, value, block, blockAt, bytesOf}
@@ -85,3 +86,7 @@ pub bytesOf-blockAt : (s : List ℕ) (i : ℕ) → ((j : ℕ) → j < length s �
 unfolding blockAt bytesOf
 bytesOf-blockAt s i small h =
     ap (bytes 16) (value-block _ (number-lt s (16 * i) 16)) ∙ bytes-number s (16 * i) 16 small h
+
+-- so sixteen bytes are those of the block that was read there
+pub bytesOf-whole : (s : List ℕ) {b : Block} → length s ≡ 16 → ((j : ℕ) → j < length s → getD s j 0 < 256) → b ≡ blockAt s 0 → bytesOf b ≡ s
+bytesOf-whole s l small e = ap bytesOf e ∙ bytesOf-blockAt s 0 small (omega arith) ∙ take-all 16 s (omega arith)

@@ -13,9 +13,8 @@ use borrow.Author.Tests.{eq-eqb, ne-eqb, eqb-true, eqb-false}
 use Rattle.field.specs.declared.blocks.Block.{Block}
 use Rattle.field.specs.Field.{value, block, Small, blockAt, bytesOf}
 use Rattle.field.proofs.Values.{block-value}
-use Rattle.field.proofs.BlockAt.{small-blockAt, blockAt-bytesOf}
+use Rattle.field.proofs.BlockAt.{small-blockAt, blockAt-bytesOf, bytesOf-whole}
 use Rattle.gcm.specs.Authenticated.{equal}
-use Rattle.gcm.proofs.CounterLaws.{bytes-again}
 
 -- ---- by their words
 
@@ -97,7 +96,7 @@ equal-number t b size bytes small = flag (eqb (value (blockAt t 0)) (value b)) r
   where
     same-block : value (blockAt t 0) ≡ value b → t ≡ bytesOf b
     same-block e =
-        bytes-again t size bytes
+        sym (bytesOf-whole t size bytes refl)
         ∙ ap bytesOf (sym (block-value (blockAt t 0) (small-blockAt t 0)) ∙ ap block e ∙ block-value b small)
 
     same-value : t ≡ bytesOf b → value (blockAt t 0) ≡ value b

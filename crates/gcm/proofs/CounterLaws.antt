@@ -14,7 +14,7 @@ use Rattle.field.specs.declared.blocks.Block.{Block}
 use Rattle.field.specs.Field.{number, bytes, xorBytes, value, Small, blockAt, bytesOf, blocks}
 use Rattle.field.proofs.Bytes.{number-append-right, number-bytes, length-bytes, bytes-append}
 use Rattle.field.proofs.Values.{value-small}
-use Rattle.field.proofs.BlockAt.{length-bytesOf, bytesOf-value, bytesOf-blockAt}
+use Rattle.field.proofs.BlockAt.{length-bytesOf, bytesOf-value, bytesOf-whole}
 use Rattle.field.proofs.BlockCounts.{blocks-value, le-blocks}
 use Rattle.field.proofs.XorBytes.{length-xor, xorBytes-comm, xorBytes-self, xorBytes-cancel, xorBytes-append, getD-bits}
 use Rattle.gcm.specs.Gmac.{CIPH}
@@ -99,10 +99,6 @@ module _ (key icb : List ℕ) (first n : ℕ) where
   unfolding keyStream
   getD-stream k l = getD-concatenated _ length-cipher n k l
 
--- sixteen bytes are those of the block that they are
-pub bytes-again : (s : List ℕ) → length s ≡ 16 → ((i : ℕ) → i < length s → getD s i 0 < 256) → s ≡ bytesOf (blockAt s 0)
-bytes-again s l small = sym (bytesOf-blockAt s 0 small (omega arith) ∙ take-all 16 s (omega arith))
-
 -- so code makes it: s are the counter blocks, and t, which are bytes, their ciphers
 pub stream-of : (key : List ℕ) (j : Block) (first n : ℕ) {rows : List (List ℕ)} {s t : List ℕ} → rows ≡ rowsOf key
     → s ≡ counters (bytesOf j) first n → t ≡ eachBlock rows s → ((i : ℕ) → i < length t → getD t i 0 < 256)
@@ -127,7 +123,7 @@ stream-of key j first n {rows} {s} {t} e es et small =
     ∙ block-aes key s e i (omega arith)
     ∙ ap (aes key) (ap (λ (x : List ℕ). take 16 (drop (16 * i) x)) es ∙ block-of _ sixteen n i l)
     in
-    bytes-again u size-u small-u ∙ ap (λ (x : List ℕ). bytesOf (blockAt x 0)) ciphers
+    sym (bytesOf-whole u size-u small-u refl) ∙ ap (λ (x : List ℕ). bytesOf (blockAt x 0)) ciphers
     in
     sym (take-all (16 * n) t (omega arith)) ∙ by-blocks _ n t at
 

@@ -4,8 +4,7 @@ use mathlib.Core.Path.{_≡_, refl, sym, ap, ap₂, _∙_}
 use mathlib.Core.Bool.{true}
 use mathlib.Core.Logic.{_≢_, _⊎_, inl, inr}
 use mathlib.Core.List.{List, [], _∷_}
-use Prim.Native.Nat.{ℕ, _<_}
-use native.Mathlib.Nat.{eq-or-lt-of-le}
+use Prim.Native.Nat.{ℕ, zero, suc}
 use native.Mathlib.Omega.{arith}
 use lib.ListN.{length}
 use Rattle.field.specs.Field.{bytesOf}
@@ -43,54 +42,68 @@ supported-turned : (key iv p a : List ℕ) → supported iv p a ≡ true → sup
 unfolding supported
 supported-turned key iv p a s = rw (length-turned key iv p) s
 
--- ---- a number is 0 or it is not
+-- ---- the ways in which a call ends
 
-zero-or-more : (n : ℕ) → (0 ≡ n) ⊎ (0 < n)
-zero-or-more n = eq-or-lt-of-le (omega arith)
+-- a number is 0 or it is not
+zero-or-not : (n : ℕ) → (n ≡ 0) ⊎ (n ≢ 0)
+zero-or-not zero = inl refl
+zero-or-not (suc n) = inr (λ e. omega arith)
+
+-- the number of an answer, and its output
+encrypt-number : {x y : EncryptAnswer} → x ≡ y → x .refusal ≡ y .refusal
+encrypt-number e = ap (λ (x : EncryptAnswer). x .refusal) e
+
+decrypt-number : {x y : DecryptAnswer} → x ≡ y → x .refusal ≡ y .refusal
+decrypt-number e = ap (λ (x : DecryptAnswer). x .refusal) e
+
+decrypt-out : {x y : DecryptAnswer} → x ≡ y → x .out ≡ y .out
+decrypt-out e = ap (λ (x : DecryptAnswer). x .out) e
 
 module _ (key nonce a text out tag : List ℕ) where
   -- what was encrypted was not refused for its lengths
   encrypted-zero : encrypted key nonce a text out tag .refusal ≡ 0 → gcmRefusal key nonce a text out tag ≡ 0
-  encrypted-zero e = by (zero-or-more (gcmRefusal key nonce a text out tag))
+  encrypted-zero e = by (zero-or-not (gcmRefusal key nonce a text out tag))
     where
-      by : (0 ≡ gcmRefusal key nonce a text out tag) ⊎ (0 < gcmRefusal key nonce a text out tag) → gcmRefusal key nonce a text out tag ≡ 0
-      by (inl z) = sym z
-      by (inr p) = sym (ap (λ (x : EncryptAnswer). x .refusal) (encrypted-refused key nonce a text out tag (λ z. omega arith))) ∙ e
+      by : (gcmRefusal key nonce a text out tag ≡ 0) ⊎ (gcmRefusal key nonce a text out tag ≢ 0) → gcmRefusal key nonce a text out tag ≡ 0
+      by (inl z) = z
+      by (inr f) = sym (encrypt-number (encrypted-refused key nonce a text out tag f)) ∙ e
 
-  -- nor what was decrypted, and its tag was right
-  decrypted-zero : decrypted key nonce a text out tag .refusal ≡ 0
-      → (gcmRefusal key nonce a text out tag ≡ 0) × (tag ≡ tagOfText key nonce text a)
-  decrypted-zero e = by (zero-or-more (gcmRefusal key nonce a text out tag))
+  -- decryption is refused for its lengths, refused for its tag, or accepted
+  abbrev Refused : Type 0
+  Refused = gcmRefusal key nonce a text out tag ≢ 0
+
+  abbrev Wrong : Type 0
+  Wrong = (gcmRefusal key nonce a text out tag ≡ 0) × (tag ≢ tagOfText key nonce text a)
+
+  abbrev Fits : Type 0
+  Fits = (gcmRefusal key nonce a text out tag ≡ 0) × (tag ≡ tagOfText key nonce text a)
+
+  ways : Refused ⊎ (Wrong ⊎ Fits)
+  ways = by (zero-or-not (gcmRefusal key nonce a text out tag)) (same-or-not tag (tagOfText key nonce text a))
     where
-      right : gcmRefusal key nonce a text out tag ≡ 0 → (tag ≡ tagOfText key nonce text a) ⊎ (tag ≡ tagOfText key nonce text a → ⊥)
-          → tag ≡ tagOfText key nonce text a
-      right z (inl t) = t
-      right z (inr f) =
-          absurd (omega (arith, sym (ap (λ (x : DecryptAnswer). x .refusal) (decrypted-wrong key nonce a text out tag z f)) ∙ e))
+      by : (gcmRefusal key nonce a text out tag ≡ 0) ⊎ Refused → (tag ≡ tagOfText key nonce text a) ⊎ (tag ≢ tagOfText key nonce text a)
+          → Refused ⊎ (Wrong ⊎ Fits)
+      by (inr f) t = inl f
+      by (inl z) (inr f) = inr (inl (z, f))
+      by (inl z) (inl t) = inr (inr (z, t))
 
-      by : (0 ≡ gcmRefusal key nonce a text out tag) ⊎ (0 < gcmRefusal key nonce a text out tag)
-          → (gcmRefusal key nonce a text out tag ≡ 0) × (tag ≡ tagOfText key nonce text a)
-      by (inl z) = (sym z, right (sym z) (same-or-not tag (tagOfText key nonce text a)))
-      by (inr p) =
-          absurd
-          (omega (
-            arith,
-            sym (ap (λ (x : DecryptAnswer). x .refusal) (decrypted-refused key nonce a text out tag (λ z. omega arith))) ∙ e,
-          ))
+  -- it was accepted: neither lengths nor tag were refused
+  decrypted-zero : decrypted key nonce a text out tag .refusal ≡ 0 → Fits
+  decrypted-zero e = by ways
+    where
+      by : Refused ⊎ (Wrong ⊎ Fits) → Fits
+      by (inl f) = absurd (f (sym (decrypt-number (decrypted-refused key nonce a text out tag f)) ∙ e))
+      by (inr (inl w)) = absurd (omega (arith, sym (decrypt-number (decrypted-wrong key nonce a text out tag (w .0) (w .1))) ∙ e))
+      by (inr (inr h)) = h
 
-  -- what stood in the output stays where decryption is refused
+  -- it was refused: what stood in the output stays
   decrypted-kept : decrypted key nonce a text out tag .refusal ≢ 0 → decrypted key nonce a text out tag .out ≡ out
-  decrypted-kept f = by (zero-or-more (gcmRefusal key nonce a text out tag))
+  decrypted-kept n = by ways
     where
-      tried : gcmRefusal key nonce a text out tag ≡ 0 → (tag ≡ tagOfText key nonce text a) ⊎ (tag ≡ tagOfText key nonce text a → ⊥)
-          → decrypted key nonce a text out tag .out ≡ out
-      tried z (inl t) = absurd (f (ap (λ (x : DecryptAnswer). x .refusal) (decrypted-fits key nonce a text out tag z t)))
-      tried z (inr w) = ap (λ (x : DecryptAnswer). x .out) (decrypted-wrong key nonce a text out tag z w)
-
-      by : (0 ≡ gcmRefusal key nonce a text out tag) ⊎ (0 < gcmRefusal key nonce a text out tag)
-          → decrypted key nonce a text out tag .out ≡ out
-      by (inl z) = tried (sym z) (same-or-not tag (tagOfText key nonce text a))
-      by (inr p) = ap (λ (x : DecryptAnswer). x .out) (decrypted-refused key nonce a text out tag (λ z. omega arith))
+      by : Refused ⊎ (Wrong ⊎ Fits) → decrypted key nonce a text out tag .out ≡ out
+      by (inl f) = decrypt-out (decrypted-refused key nonce a text out tag f)
+      by (inr (inl w)) = decrypt-out (decrypted-wrong key nonce a text out tag (w .0) (w .1))
+      by (inr (inr h)) = absurd (n (decrypt-number (decrypted-fits key nonce a text out tag (h .0) (h .1))))
 
   -- the text comes back
   encrypted-back : (kept : List ℕ) → encrypted key nonce a text out tag .refusal ≡ 0 → length kept ≡ length text
@@ -129,7 +142,7 @@ tag-nothing key nonce a = ap (λ (c : List ℕ). tagOfText key nonce c a) (turne
 
 gmac-text : (key nonce a tag : List ℕ)
     → encrypted key nonce a [] [] tag ≡ record { refusal = gmacRefusal key nonce a tag; out = []; tag = gmacOutput key nonce a tag }
-gmac-text key nonce a tag = by (zero-or-more (gmacRefusal key nonce a tag))
+gmac-text key nonce a tag = by (zero-or-not (gmacRefusal key nonce a tag))
   where
     lengths : gcmRefusal key nonce a [] [] tag ≡ gmacRefusal key nonce a tag
     lengths = no-text key nonce a tag
@@ -138,14 +151,14 @@ gmac-text key nonce a tag = by (zero-or-more (gmacRefusal key nonce a tag))
         → encryptResult x t u ≡ encryptResult (gmacRefusal key nonce a tag) [] (gmacOutput key nonce a tag)
     answered t u x et eu ex = rw (et, eu, ex)
 
-    by : (0 ≡ gmacRefusal key nonce a tag) ⊎ (0 < gmacRefusal key nonce a tag)
+    by : (gmacRefusal key nonce a tag ≡ 0) ⊎ (gmacRefusal key nonce a tag ≢ 0)
         → encrypted key nonce a [] [] tag ≡ encryptResult (gmacRefusal key nonce a tag) [] (gmacOutput key nonce a tag)
     by (inl z) =
-        encrypted-done key nonce a [] [] tag (lengths ∙ sym z)
-        ∙ answered _ _ 0 (turned-nothing key nonce) (tag-nothing key nonce a ∙ sym (gmac-written key nonce a tag (sym z))) z
-    by (inr p) =
-        encrypted-refused key nonce a [] [] tag (λ z. omega (arith, lengths))
-        ∙ answered [] tag _ refl (sym (gmac-kept key nonce a tag (λ z. omega arith))) lengths
+        encrypted-done key nonce a [] [] tag (lengths ∙ z)
+        ∙ answered _ _ 0 (turned-nothing key nonce) (tag-nothing key nonce a ∙ sym (gmac-written key nonce a tag z)) (sym z)
+    by (inr f) =
+        encrypted-refused key nonce a [] [] tag (λ z. f (sym lengths ∙ z))
+        ∙ answered [] tag _ refl (sym (gmac-kept key nonce a tag f)) lengths
 
 -- ---- the theorem
 
@@ -158,7 +171,7 @@ gcm-theorem =
     record {
       works =
           λ key nonce a text out tag fits some size same short-nonce short short-text.
-          ap (λ (x : EncryptAnswer). x .refusal)
+          encrypt-number
           (encrypted-done key nonce a text out tag
           (gcm-accepts key nonce a text out tag
           (record {
@@ -172,14 +185,14 @@ gcm-theorem =
           })));
       returned = encrypted-back;
       standard = undone;
-      accepts = λ key nonce a text out tag z e. ap (λ (x : DecryptAnswer). x .refusal) (decrypted-fits key nonce a text out tag z e);
+      accepts = λ key nonce a text out tag z e. decrypt-number (decrypted-fits key nonce a text out tag z e);
       exactly = decrypted-zero;
       released =
           λ key nonce a text out tag e.
           let h = decrypted-zero key nonce a text out tag e in
           AD-fits key nonce a text tag (lengths-supported key nonce a text tag (gcm-accepted key nonce a text out tag (h .0))) (h .1)
-          ∙ ap P (sym (ap (λ (x : DecryptAnswer). x .out) (decrypted-fits key nonce a text out tag (h .0) (h .1))));
-      wrong = λ key nonce a text out tag z f. ap (λ (x : DecryptAnswer). x .refusal) (decrypted-wrong key nonce a text out tag z f);
+          ∙ ap P (sym (decrypt-out (decrypted-fits key nonce a text out tag (h .0) (h .1))));
+      wrong = λ key nonce a text out tag z f. decrypt-number (decrypted-wrong key nonce a text out tag z f);
       kept = decrypted-kept;
       no-text = gmac-text;
     }

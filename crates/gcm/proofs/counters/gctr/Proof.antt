@@ -1,5 +1,5 @@
 -- `gcm::counters::gctr` meets its contract. The loop's invariant: the bytes before `at` are turned (`Batches`).
-use mathlib.Core.Path.{sym, ap, _∙_}
+use mathlib.Core.Path.{ap, _∙_}
 use mathlib.Core.List.{List}
 use Prim.Native.Nat.{ℕ, _-_, _<_}
 use mir.Syntax.{w8}
@@ -7,9 +7,8 @@ use mir.Val.{Fits}
 use native.Mathlib.Omega.{arith}
 use borrow.Author.Needs.{needs}
 use lib.ListN.{length, getD}
-use Rattle.field.specs.Field.{bytesOf}
+use Rattle.field.proofs.BlockAt.{bytesOf-whole}
 use Rattle.gcm.specs.Counters.{inc32, GCTR}
-use Rattle.gcm.proofs.CounterLaws.{bytes-again}
 use Rattle.gcm.proofs.Batches.{Turning, turning-start, turning-next, turning-done}
 use Rattle.gcm.proofs.counters.gctr.Statement.{statement}
 use Rattle.gcm.proofs.counters.gctr.Tie as tie
@@ -76,7 +75,7 @@ returns c =
     λ key e.
     turning-done (c .before .loop .inv) (omega arith) (start .pre .2) key e
     ∙ ap (λ (x : List ℕ). GCTR key (inc32 x) (start .args .text .now))
-    (ap bytesOf (c .before .before .from-bytes .ensures) ∙ sym (bytes-again j (search needs) small))
+    (bytesOf-whole j (search needs) small (c .before .before .from-bytes .ensures))
 
 pub gctr-spec : {M : Type 1} → statement M
 gctr-spec =
