@@ -104,25 +104,27 @@
  * COST
  *
  * Nanoseconds a call takes, the median of many, on one core of an Intel Xeon
- * server (no instruction for AES or for products of polynomials is used). Take
+ * server (no instruction for AES or for products of polynomials is used), all of
+ * one run; other runs there took from nine tenths to nearly twice as long. Take
  * them as orders of magnitude, and `make cost` for your own machine:
  *
- *      armfile_start                                    60 000
- *      armfile_read of 1 KiB, of 1 MiB        76 000, 16 000 000
- *      armfile_append of 16 bytes, of 4 KiB          830, 63 000
- *      armfile_change of 16 bytes, first of 1 GiB       12 000
- *      armfile_cut_tail of 16 bytes                        900
- *      armfile_seal, armfile_check                2 300, 2 400
- *      armfile_gmac of 1 KiB                            20 000
- *      armfile_gcm_encrypt of 1 KiB, of 1 MiB  97 000, 95 000 000
- *      armfile_gcm_decrypt of 1 KiB                     97 000
- *      armfile_encrypt, armfile_multiply            2 000, 300
+ *      armfile_start                                    63 000
+ *      armfile_read of 1 KiB, of 1 MiB        82 000, 18 000 000
+ *      armfile_append of 16 bytes, of 4 KiB          870, 68 000
+ *      armfile_change of 16 bytes, first of 1 GiB       13 000
+ *      armfile_cut_tail of 16 bytes                        890
+ *      armfile_seal, armfile_check                2 600, 2 600
+ *      armfile_gmac of 1 KiB                            23 000
+ *      armfile_gcm_encrypt of 1 KiB, of 1 MiB 110 000, 111 000 000
+ *      armfile_gcm_decrypt of 1 KiB                    106 000
+ *      armfile_encrypt, armfile_multiply            2 200, 300
  *
- * Most of it is products of blocks, about 240 each in a long run; an edit
+ * Most of it is products of blocks, about 280 each in a long run; an edit
  * returns how many it took. What armfile_start and armfile_read take besides
  * the file is H's companion I, some 250 products. A replay takes a little less
  * than its edits when they are made singly. Most of GCM is blocks of the
- * cipher, about 1 200 each.
+ * cipher, about 1 400 each (what an encryption of 1 MiB takes more than a
+ * read of it).
  *
  * THE STATE
  *
