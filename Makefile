@@ -12,7 +12,7 @@ run:
 	head -n 11 crates/cipher_vectors/stdin | target/bin/cipher_vectors
 
 # The static library that C and Rust programs link, and its header, in target/lib. It needs no other library.
-LAYERS = crates/refusals crates/cipher crates/field crates/gcm crates/file crates/journal crates/capi
+LAYERS = crates/refusals crates/planes crates/cipher crates/field crates/gcm crates/file crates/journal crates/capi
 lib: target/lib/libarmfile.a target/lib/armfile.h
 target/lib/libarmfile.a: crates.txt $(shell find $(LAYERS) -name '*.rt' -o -name '*.antt')
 	rt staticlib capi

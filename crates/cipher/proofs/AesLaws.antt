@@ -8,7 +8,7 @@ use borrow.Author.Tests.{eqb-true, eq-eqb}
 use Rattle.cipher.specs.Rounds.{AddRoundKey}
 use Rattle.cipher.specs.Cipher.{Cipher, aes}
 use Rattle.cipher.specs.Answers.{keyFits}
-use Rattle.cipher.proofs.Tables.{length-tab}
+use Rattle.planes.proofs.Tables.{length-tab}
 
 -- the cipher gives sixteen bytes, of any lists
 pub length-aes : (key block : List ℕ) → length (aes key block) ≡ 16

@@ -9,18 +9,14 @@ use native.Mathlib.Decide.{decLt}
 use native.Mathlib.Omega.{arith}
 use borrow.Author.Tests.{lt-ltb, le-ltb, eq-eqb, ne-eqb}
 use lib.Dec.{ltb}
-use lib.Bits.{xor-zero-r}
 use lib.ListN.{length, getD, set}
-use Rattle.cipher.specs.Tables.{grow, tab, at}
-use Rattle.cipher.specs.ByteField.{xor}
+use Rattle.planes.specs.Tables.{grow, tab, at}
+use Rattle.planes.specs.Planes.{xor, xPower}
 use Rattle.cipher.specs.Rounds.{SubBytes}
-use Rattle.cipher.specs.Schedule.{addWords, RotWord, SubWord, xPower, Rcon, temp, nextWord, roundKey}
+use Rattle.cipher.specs.Schedule.{addWords, RotWord, SubWord, Rcon, temp, nextWord, roundKey}
 use Rattle.cipher.specs.Contracts.{word, nextRow, carried, rowOf, Expands}
-use Rattle.cipher.proofs.Tables.{getD-grow, Filled, filled-next, filled-read}
-
-xor-zero : (a : ℕ) → xor a 0 ≡ a
-unfolding xor
-xor-zero a = xor-zero-r a
+use Rattle.planes.proofs.Tables.{getD-grow, Filled, filled-next, filled-read}
+use Rattle.planes.proofs.Bytes.{xor-zero}
 
 -- ---- temp, by the place of its word
 

@@ -1,6 +1,6 @@
-pub mod Tables
-pub mod Bytes
 pub mod KeyRows
 pub mod Whole
 pub mod ManyBlocks
 pub mod AesLaws
+pub mod RoundLanes
+pub mod SixteenStates

@@ -10,7 +10,7 @@ use native.Mathlib.Omega.{arith}
 use borrow.Author.Tests.{ne-eqb, not-false}
 use lib.ListN.{length, getD}
 use lib.Seq.{ext-getD}
-use Rattle.cipher.specs.Tables.{tab, at}
+use Rattle.planes.specs.Tables.{tab, at}
 use Rattle.cipher.specs.Rounds.{SubBytes, ShiftRows, AddRoundKey}
 use Rattle.cipher.specs.Schedule.{KeyExpansion, schedule}
 use Rattle.cipher.specs.Contracts.{causeNumber, answerRefusal, rowOf, Expands}
@@ -21,20 +21,23 @@ use Rattle.cipher.specs.declared.Cause.{Cause}
 use Rattle.cipher.specs.declared.Cause.the-variants.{InputLength, OutputLength}
 use Rattle.cipher.specs.Answers.{keyFits, encryptRefusal, encryptOutput}
 use Rattle.refusals.proofs.Laws.{first-passed, agreed}
-use Rattle.cipher.proofs.Tables.{length-tab, getD-tab, tab-ext}
+use Rattle.planes.proofs.Tables.{length-tab, getD-tab, tab-ext}
 use Rattle.cipher.proofs.KeyRows.{row-stable}
 
+-- one round more
 pub after-more :
     (rows : List (List ℕ)) (s₀ s t : List ℕ) (r : ℕ) → s ≡ after rows s₀ r → t ≡ Round s (getD rows (r + 1) []) → t ≡ after rows s₀ (r + 1)
 after-more rows s₀ s t r es et = et ∙ rw (es, add-one) (unfold after in refl)
 
 -- the last round, after all those before it
-pub cipher-done :
-    (rows : List (List ℕ)) (input s₀ s a b t : List ℕ) (r last : ℕ) → s₀ ≡ AddRoundKey input (getD rows 0 []) → s ≡ after rows s₀ r
-    → r ≡ last - 1
-    → a ≡ SubBytes s → b ≡ ShiftRows a → t ≡ AddRoundKey b (getD rows last []) → t ≡ Cipher last input rows
+pub cipher-done : (rows : List (List ℕ)) (input : List ℕ) (r last : ℕ) → r ≡ last - 1
+    → AddRoundKey (ShiftRows (SubBytes (after rows (AddRoundKey input (getD rows 0 [])) r))) (getD rows last []) ≡ Cipher last input rows
 unfolding Cipher
-cipher-done rows input s₀ s a b t r last e₀ es er ea eb et = et ∙ rw (eb, ea, es, er, e₀)
+cipher-done rows input r last e = rw e
+
+pub length-sum : (s k : List ℕ) → length (AddRoundKey s k) ≡ 16
+unfolding AddRoundKey
+length-sum s k = length-tab 16 _
 
 -- a table of a list's bytes is the list
 pub tab-at : (n : ℕ) (s : List ℕ) → length s ≡ n → tab n (at s) ≡ s

@@ -2,7 +2,7 @@
 use mathlib.Core.List.{List, []}
 use Prim.Native.Nat.{ℕ, zero, suc, _+_, _-_, _*_, _/_, _%_}
 use lib.ListN.{length, getD, take, drop}
-use Rattle.cipher.specs.Tables.{tab, at}
+use Rattle.planes.specs.Tables.{tab, at}
 use Rattle.cipher.specs.Rounds.{SubBytes, ShiftRows, MixColumns, AddRoundKey}
 use Rattle.cipher.specs.Schedule.{schedule}
 

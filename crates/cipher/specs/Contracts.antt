@@ -1,16 +1,18 @@
--- What serves the contracts of the code alone, and no other definition: the readers of its answers, and the schedule by the steps in which
--- it is made, row by row. proofs/KeyRows shows that these steps are KEYEXPANSION's (FIPS 197, 5.2).
+-- What serves the contracts of the code alone, and no other definition: the readers of its answers; the schedule by the steps in which it is made,
+-- row by row, of which proofs/KeyRows shows that they are KEYEXPANSION's (FIPS 197, 5.2); and how states stand in planes.
 use mathlib.Core.Bool.{cond}
 use mathlib.Core.List.{List, _++_}
-use Prim.Native.Nat.{ℕ, _+_, _-_, _*_, _/_, _%_, _≤_}
+use Prim.Native.Nat.{ℕ, _+_, _-_, _*_, _/_, _%_, _≤_, _<_}
 use mathlib.Core.Path.{_≡_}
 use lib.Dec.{ltb}
-use lib.ListN.{length}
+use lib.ListN.{length, getD}
 use Rattle.cipher.specs.declared.Answer.{Answer}
 use Rattle.cipher.specs.declared.Answer.the-variants.{Done, Refused}
 use Rattle.cipher.specs.declared.Cause.{Cause}
 use Rattle.cipher.specs.declared.Cause.the-variants.{InputLength, OutputLength}
-use Rattle.cipher.specs.Tables.{grow, tab, at}
+use Rattle.planes.specs.Tables.{grow, tab, at}
+use Rattle.planes.specs.Planes.{lane}
+use Rattle.planes.specs.declared.Planes.{Planes}
 use Rattle.cipher.specs.Schedule.{addWords, nextWord, roundKey}
 use Rattle.cipher.specs.Cipher.{Nk}
 
@@ -54,3 +56,25 @@ pub record Expands (key : List ℕ) (n : ℕ) : Type 0 where
   pub least : 16 ≤ length key
   pub most : length key ≤ 32
   pub rows : n ≤ 11 * (length key / 16)
+
+-- ---- planes
+
+-- planes that hold nothing
+abbrev pub blank : Planes
+blank = record { p0 = 0; p1 = 0; p2 = 0; p3 = 0; p4 = 0; p5 = 0; p6 = 0; p7 = 0 }
+
+-- set r of four sets of planes
+abbrev pub rowIn : List Planes → ℕ → Planes
+rowIn q r = getD q r blank
+
+-- the state of block b of sixteen: its byte in row r and column c stands in lane 16·c + b of set r
+unfoldable pub stateIn : List Planes → ℕ → List ℕ
+stateIn q b = tab 16 (λ i. lane (rowIn q (i % 4)) (16 * (i / 4) + b))
+
+-- how many of the bytes that are left, which are whole blocks, are taken next: those of sixteen blocks, or of one
+pub record Portion (left r : ℕ) : Type 0 where
+  pub whole : r % 16 ≡ 0
+  pub some : 0 < r
+  pub fits : left % 16 ≡ 0 → 0 < left → r ≤ left
+  pub sixteen : 256 ≤ r → r ≡ 256
+  pub one : r < 256 → r ≡ 16

@@ -1,6 +1,3 @@
-pub mod Tables
-pub mod ByteField
-pub mod Substitution
 pub mod Rounds
 pub mod Schedule
 pub mod Cipher

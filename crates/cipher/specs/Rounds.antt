@@ -2,9 +2,8 @@
 -- r + 4·c of a list of sixteen (section 3.4).
 use mathlib.Core.List.{List}
 use Prim.Native.Nat.{ℕ, _+_, _*_, _/_, _%_}
-use Rattle.cipher.specs.Tables.{tab, at}
-use Rattle.cipher.specs.ByteField.{xor, _•_}
-use Rattle.cipher.specs.Substitution.{sbox}
+use Rattle.planes.specs.Tables.{tab, at}
+use Rattle.planes.specs.Planes.{xor, _•_, sbox}
 
 -- the byte of the state in row r and column c (3.4)
 abbrev pub entry : List ℕ → ℕ → ℕ → ℕ

@@ -1,12 +1,11 @@
 -- KEYEXPANSION (FIPS 197, section 5.2), for any number Nk of key words and Nr of rounds. A word is a list of four bytes.
 use mathlib.Core.Bool.{cond}
 use mathlib.Core.List.{List, [], _∷_, _++_}
-use Prim.Native.Nat.{ℕ, zero, suc, _+_, _-_, _*_, _/_, _%_}
+use Prim.Native.Nat.{ℕ, _+_, _-_, _*_, _/_, _%_}
 use lib.Dec.{ltb, eqb}
 use lib.ListN.{getD}
-use Rattle.cipher.specs.Tables.{grow, tab, at}
-use Rattle.cipher.specs.ByteField.{xor, xTimes}
-use Rattle.cipher.specs.Substitution.{sbox}
+use Rattle.planes.specs.Tables.{grow, tab, at}
+use Rattle.planes.specs.Planes.{xor, xPower, sbox}
 
 -- two words added (5.2)
 unfoldable pub addWords : List ℕ → List ℕ → List ℕ
@@ -20,12 +19,7 @@ RotWord a = tab 4 (λ j. at a ((j + 1) % 4))
 unfoldable pub SubWord : List ℕ → List ℕ
 SubWord a = tab 4 (λ j. sbox (at a j))
 
--- x^n in the byte field, the first byte of Rcon[n + 1] (5.2)
-unfoldable pub xPower : ℕ → ℕ
-xPower zero = 1
-xPower (suc n) = xTimes (xPower n)
-
--- Rcon[j] = [x^(j − 1), 0, 0, 0] (5.2)
+-- Rcon[j] = [x^(j − 1), 0, 0, 0], with x^n in the byte field (5.2)
 unfoldable pub Rcon : ℕ → List ℕ
 Rcon j = xPower (j - 1) ∷ 0 ∷ 0 ∷ 0 ∷ []
 

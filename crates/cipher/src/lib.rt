@@ -1,6 +1,6 @@
 // AES encryption of blocks (FIPS 197). This layer knows nothing of the field or of files.
 mod batches;
-mod byte_field;
+mod kernel;
 mod keys;
 mod rounds;
 mod schedule;
@@ -28,7 +28,7 @@ pub enum Answer {
 }
 
 // Encrypts one block. Refused, in this order, where key or block is not 16 bytes and where the output is not; the output then
-// stays as it was. The time depends on no byte but through the substitution table's addresses.
+// stays as it was. The time depends on no byte.
 pub fn encrypt(key: &[u8], block: &[u8], out: &mut [u8]) -> Answer
     ensures answer { λ r. ⌜ answerRefusal r ≡ encryptRefusal (now (key .entry)) (now (block .entry)) (now (out .entry)) ⌝ }
     ensures output { λ _. ⌜ now (out .exit) ≡ encryptOutput (now (key .entry)) (now (block .entry)) (now (out .entry)) ⌝ }

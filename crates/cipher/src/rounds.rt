@@ -1,81 +1,62 @@
-// The transformations of the state, a round, and the cipher over the rows of a schedule (FIPS 197, section 5.1). The state is
-// sixteen bytes, column by column.
-use super::byte_field::substitute;
-use super::byte_field::times_x;
+// The transformations of the state, a round, and the cipher over the rows of a schedule (FIPS 197, section 5.1), on bit planes. The state is
+// sixteen bytes, column by column, which stand in the planes' lanes four times (planes/specs/Lanes, spread). A round key comes as bytes, and is
+// packed where it is added.
+use planes::Planes;
+use planes::doubled;
+use planes::packed;
+use planes::plus;
+use planes::rotated;
+use planes::slid;
+use planes::substituted;
+use planes::unpacked;
 ghost use mathlib.Core.Path.{_≡_};
-ghost use Prim.Native.Nat.{_-_, _<_, _≤_};
+ghost use mathlib.Core.List.{List};
+ghost use Prim.Native.Nat.{ℕ, _-_, _<_, _≤_};
 ghost use lib.ListN.{length};
-ghost use Rattle.cipher.specs.Rounds.{SubBytes, ShiftRows, mixedEntry, MixColumns, AddRoundKey};
+ghost use Rattle.planes.specs.Planes.{lane, Shows, spread};
+ghost use Rattle.cipher.specs.Rounds.{SubBytes, ShiftRows, mixed, MixColumns, AddRoundKey};
 ghost use Rattle.cipher.specs.Cipher.{Round, Cipher};
 
-// The substitution box at every byte. The rounds and the schedule both use this function.
+// The substitution box at every byte. It serves the schedule; the rounds use the same function of planes.
 pub fn sub_bytes(s: [u8; 16]) -> [u8; 16]
     ensures { λ r. ⌜ r ≡ SubBytes s ⌝ }
 {
-    let mut t = s;
-    let mut i = 0;
-    while i < 16 {
-        t[i] = substitute(s[i]);
-        i += 1;
-    }
-    t
+    unpacked(substituted(packed(s)))
 }
 
-// Row r moves r places to the left.
-pub fn shift_rows(s: [u8; 16]) -> [u8; 16]
-    ensures { λ r. ⌜ r ≡ ShiftRows s ⌝ }
+// The substitution box at every byte, and then row r moves r places to the left.
+fn sub_and_shift(q: Planes) -> Planes
+    ensures { λ r. ⌜ ((s : List ℕ) → Shows q (spread s) → Shows r (spread (ShiftRows (SubBytes s)))) ⌝ }
 {
-    let mut t = s;
-    let mut i = 0;
-    while i < 16 {
-        let from = i % 4 + 4 * ((i / 4 + i % 4) % 4);
-        t[i] = s[from];
-        i += 1;
-    }
-    t
+    slid(substituted(q))
 }
 
-// Each column times a fixed matrix.
-pub fn mix_columns(s: [u8; 16]) -> [u8; 16]
-    ensures { λ r. ⌜ r ≡ MixColumns s ⌝ }
+// One row of mixed columns, from that row and the three behind it.
+pub fn mixed_row(a: Planes, b: Planes, c: Planes, d: Planes) -> Planes
+    ensures { λ r. ⌜ Shows r (λ i. mixed (lane a i) (lane b i) (lane c i) (lane d i)) ⌝ }
 {
-    let mut t = s;
-    let mut i = 0;
-    while i < 16 {
-        t[i] = mixed_entry(s, i % 4, i / 4);
-        i += 1;
-    }
-    t
+    plus(plus(plus(doubled(a), plus(doubled(b), b)), c), d)
 }
 
-// The byte in row r and column c after mix_columns, from the four bytes of that column.
-fn mixed_entry(s: [u8; 16], r: usize, c: usize) -> u8
-    requires { ⌜ (r < 4) × (c < 4) ⌝ }
-    ensures { λ x. ⌜ x ≡ mixedEntry s r c ⌝ }
+// Each column times a fixed matrix. The row behind a lane's own is eight lanes on.
+fn mix_columns(q: Planes) -> Planes
+    ensures { λ r. ⌜ ((s : List ℕ) → Shows q (spread s) → Shows r (spread (MixColumns s))) ⌝ }
 {
-    let a = s[r + 4 * c];
-    let b = s[(r + 1) % 4 + 4 * c];
-    times_x(a) ^ (times_x(b) ^ b) ^ s[(r + 2) % 4 + 4 * c] ^ s[(r + 3) % 4 + 4 * c]
+    mixed_row(q, rotated(q, 8), rotated(q, 16), rotated(q, 24))
 }
 
 // A round key added to the state.
-pub fn add_round_key(s: [u8; 16], k: [u8; 16]) -> [u8; 16]
-    ensures { λ r. ⌜ r ≡ AddRoundKey s k ⌝ }
+fn add_round_key(q: Planes, k: [u8; 16]) -> Planes
+    ensures { λ r. ⌜ ((s : List ℕ) → Shows q (spread s) → Shows r (spread (AddRoundKey s k))) ⌝ }
 {
-    let mut t = s;
-    let mut i = 0;
-    while i < 16 {
-        t[i] = s[i] ^ k[i];
-        i += 1;
-    }
-    t
+    plus(q, packed(k))
 }
 
 // A round before the last.
-fn round(s: [u8; 16], k: [u8; 16]) -> [u8; 16]
-    ensures { λ r. ⌜ r ≡ Round s k ⌝ }
+fn round(q: Planes, k: [u8; 16]) -> Planes
+    ensures { λ r. ⌜ ((s : List ℕ) → Shows q (spread s) → Shows r (spread (Round s k))) ⌝ }
 {
-    add_round_key(mix_columns(shift_rows(sub_bytes(s))), k)
+    add_round_key(mix_columns(sub_and_shift(q)), k)
 }
 
 // The cipher over the rows of a schedule, one row for the key added first and one for each round.
@@ -85,15 +66,15 @@ pub fn cipher(rows: &[[u8; 16]], block: [u8; 16]) -> [u8; 16]
 {
     let last = rows.len() - 1;
     let first = rows[0];
-    let mut s = add_round_key(block, first);
+    let mut q = add_round_key(packed(block), first);
     let mut done = 0;
     while done + 1 < last {
         let r = done + 1;
         let row = rows[r];
-        let t = round(s, row);
-        s = t;
+        let t = round(q, row);
+        q = t;
         done = r;
     }
     let row = rows[last];
-    add_round_key(shift_rows(sub_bytes(s)), row)
+    unpacked(add_round_key(sub_and_shift(q), row))
 }

@@ -5,8 +5,9 @@ ghost use mathlib.Core.Path.{_≡_};
 ghost use Prim.Native.Nat.{ℕ, _+_, _-_, _*_, _/_, _<_, _≤_};
 ghost use mathlib.Core.List.{[]};
 ghost use lib.ListN.{length, getD};
-ghost use Rattle.cipher.specs.Tables.{tab, at};
-ghost use Rattle.cipher.specs.Schedule.{xPower, temp};
+ghost use Rattle.planes.specs.Tables.{tab, at};
+ghost use Rattle.planes.specs.Planes.{xPower};
+ghost use Rattle.cipher.specs.Schedule.{temp};
 ghost use Rattle.cipher.specs.Contracts.{word, nextRow, carried, rowOf, Expands};
 
 // The first bytes of Rcon[1] to Rcon[10] (FIPS 197, 5.2), with a byte before them that is not used.

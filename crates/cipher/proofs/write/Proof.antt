@@ -1,7 +1,7 @@
 -- `cipher::write` meets its contract. The loop's invariant: the first i bytes of the output are those given.
 use Rattle.cipher.proofs.Whole.{tab-at}
-use Rattle.cipher.proofs.Tables.{Filled, filled-start, filled-next, filled-length, filled-done}
-use Rattle.cipher.specs.Tables.{at, tab}
+use Rattle.planes.proofs.Tables.{Filled, filled-start, filled-next, filled-length, filled-done}
+use Rattle.planes.specs.Tables.{at, tab}
 use borrow.Author.Needs.{needs}
 use native.Mathlib.Omega.{arith}
 use mathlib.Core.Path.{refl, _∙_}

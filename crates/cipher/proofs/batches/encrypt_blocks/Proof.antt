@@ -1,78 +1,71 @@
--- `cipher::batches::encrypt_blocks` meets its contract. The loop's invariant: the blocks before `at` are replaced (`ManyBlocks`).
-use mathlib.Core.Path.{_≡_, _∙_}
-use Prim.Native.Nat.{_+_, _-_}
-use native.Mathlib.Omega.{arith}
-use borrow.Author.Needs.{needs}
+-- `cipher::batches::encrypt_blocks` meets its contract. The loop's invariant: the blocks before `at` are replaced.
+use mathlib.Core.Path.{_≡_, refl}
+use Prim.Native.Nat.{_-_, _%_}
 use lib.ListN.{length}
-use Rattle.cipher.proofs.ManyBlocks.{Replaced, replaced-start, replaced-length, replaced-room, replaced-next, replaced-done}
+use Rattle.cipher.specs.Cipher.{eachBlock}
+use Rattle.cipher.proofs.ManyBlocks.{length-each, Replaced, replaced-start, replaced-length, replaced-done, portion-size, portion-room, portion-next}
+use borrow.Author.Needs.{needs}
+use native.Mathlib.Omega.{arith}
 use Rattle.cipher.proofs.batches.encrypt_blocks.Statement.{statement}
 use Rattle.cipher.proofs.batches.encrypt_blocks.Tie as tie
 
 abbrev Inv-loop : tie.InvT-loop
-Inv-loop rows blocks₀ at₀ blocks at = Replaced rows blocks₀ at blocks
+Inv-loop rows blocks₀ at₀ blocks at = Replaced (eachBlock rows blocks₀) blocks₀ at blocks × (at % 16 ≡ 0)
 
 abbrev μ-loop : tie.MeasureT-loop
 μ-loop rows blocks₀ at₀ blocks at = length blocks₀ - at
 
 loop-holds : tie.Need-loop-holds Inv-loop μ-loop
-loop-holds c = replaced-start _ _
+loop-holds c = (replaced-start _ _ (length-each _ _), refl)
+
+sub-portion : tie.Need-sub-portion Inv-loop μ-loop
+sub-portion c = omega arith
+
+portion-requires : tie.Need-portion-requires Inv-loop μ-loop
+portion-requires c κs = search needs
 
 add-next : tie.Need-add-next Inv-loop μ-loop
-add-next c = search needs
-
-sub-sixteen : tie.Need-sub-sixteen Inv-loop μ-loop
-sub-sixteen c = search needs
-
-part-sixteen-start : tie.Need-part-sixteen-start Inv-loop μ-loop
-part-sixteen-start c = search needs
-
-part-sixteen-end : tie.Need-part-sixteen-end Inv-loop μ-loop
-part-sixteen-end c =
+add-next c =
     let loop = c .before .before in
-    omega (arith, replaced-length (loop .loop .inv), replaced-room (loop .loop .inv) (c .before .loop-test .taken) (loop .before .before .pre .1))
+    let done = loop .loop .inv .0 in
+    omega (arith, replaced-length done, portion-room _ done (loop .loop .inv .1) (loop .before .before .pre .1) (c .before .loop-test .taken) (c .portion .ensures))
 
-sixteen-requires : tie.Need-sixteen-requires Inv-loop μ-loop
-sixteen-requires c κs = c .sixteen-arg .given .2 ∙ omega arith
+sub-encrypt-portion : tie.Need-sub-encrypt-portion Inv-loop μ-loop
+sub-encrypt-portion c = omega arith
 
-cipher-requires : tie.Need-cipher-requires Inv-loop μ-loop
-cipher-requires c κs = c .before .before .before .before .before .before .pre .0
+part-encrypt-portion-start : tie.Need-part-encrypt-portion-start Inv-loop μ-loop
+part-encrypt-portion-start c = omega arith
 
-sub-write : tie.Need-sub-write Inv-loop μ-loop
-sub-write c = search needs
+part-encrypt-portion-end : tie.Need-part-encrypt-portion-end Inv-loop μ-loop
+part-encrypt-portion-end c =
+    let loop = c .before .before in
+    omega (arith, portion-room _ (loop .loop .inv .0) (loop .loop .inv .1) (loop .before .before .pre .1) (c .before .loop-test .taken) (c .portion .ensures))
 
-part-write-start : tie.Need-part-write-start Inv-loop μ-loop
-part-write-start c = search needs
-
-part-write-end : tie.Need-part-write-end Inv-loop μ-loop
-part-write-end c =
-    let test = c .before .before .before .before in
-    let loop = test .before in
-    omega (arith, replaced-length (loop .loop .inv), replaced-room (loop .loop .inv) (test .loop-test .taken) (loop .before .before .pre .1))
-
-write-requires : tie.Need-write-requires Inv-loop μ-loop
-write-requires c κs = c .write-arg .given .2 ∙ omega arith
+encrypt-portion-requires : tie.Need-encrypt-portion-requires Inv-loop μ-loop
+encrypt-portion-requires c κs =
+    (c .before .before .before .before .before .pre .0, portion-size (c .before .portion .ensures) _ _ (c .encrypt-portion-arg .given .2))
 
 loop-less : tie.Need-loop-less Inv-loop μ-loop
 loop-less c =
-    let test = c .before .before .before .before .before .before .before .before in
-    omega (arith, replaced-length (test .before .loop .inv), test .loop-test .taken)
+    let part = c .before .before .before .before in
+    let loop = part .before .before in
+    omega (arith, part .portion .ensures .some, part .before .loop-test .taken, replaced-length (loop .loop .inv .0))
 
 loop-again : tie.Need-loop-again Inv-loop μ-loop
 loop-again c =
-    let write = c .before .before in
-    let cipher = write .before .before in
-    let test = cipher .before .before .before .before in
-    let loop = test .before in
-    let size : loop .loop .at + 16 - loop .loop .at ≡ 16 = omega arith in
-    replaced-next (loop .loop .inv) size
-    (replaced-room (loop .loop .inv) (test .loop-test .taken) (loop .before .before .pre .1))
-    (cipher .before .sixteen .ensures) (write .write .ensures ∙ cipher .cipher .ensures)
+    let encrypted = c .before .before in
+    let part = encrypted .before .before in
+    let loop = part .before .before in (
+      portion-next _ (loop .loop .inv .0) (loop .loop .inv .1) (loop .before .before .pre .1) (part .before .loop-test .taken) (part .portion .ensures) _ refl
+          (encrypted .encrypt-portion .ensures),
+      omega (arith, loop .loop .inv .1, part .portion .ensures .whole),
+    )
 
 same-length : tie.Need-same-length Inv-loop μ-loop
-same-length c = replaced-length (c .before .loop .inv)
+same-length c = replaced-length (c .before .loop .inv .0)
 
 returns : tie.Need-returns Inv-loop μ-loop
-returns c = replaced-done (c .before .loop .inv) (omega (arith, replaced-length (c .before .loop .inv), c .loop-test .left))
+returns c = replaced-done (c .before .loop .inv .0) (omega (arith, replaced-length (c .before .loop .inv .0), c .loop-test .left))
 
 pub encrypt-blocks-spec : {M : Type 1} → statement M
 encrypt-blocks-spec =
@@ -81,16 +74,13 @@ encrypt-blocks-spec =
     Inv-loop
     μ-loop
     loop-holds
+    sub-portion
+    portion-requires
     add-next
-    sub-sixteen
-    part-sixteen-start
-    part-sixteen-end
-    sixteen-requires
-    cipher-requires
-    sub-write
-    part-write-start
-    part-write-end
-    write-requires
+    sub-encrypt-portion
+    part-encrypt-portion-start
+    part-encrypt-portion-end
+    encrypt-portion-requires
     loop-less
     loop-again
     same-length

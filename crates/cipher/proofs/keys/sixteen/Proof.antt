@@ -1,7 +1,7 @@
 -- `cipher::keys::sixteen` meets its contract. The loop's invariant: the first i bytes are the slice's.
 use Rattle.cipher.proofs.Whole.{tab-at}
-use Rattle.cipher.proofs.Tables.{Filled, filled-start, filled-next, filled-done}
-use Rattle.cipher.specs.Tables.{at, tab}
+use Rattle.planes.proofs.Tables.{Filled, filled-start, filled-next, filled-done}
+use Rattle.planes.specs.Tables.{at, tab}
 use native.Mathlib.Omega.{arith}
 use mathlib.Core.Path.{refl, _∙_}
 use Prim.Native.Nat.{_-_}

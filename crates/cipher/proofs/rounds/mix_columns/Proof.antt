@@ -1,51 +1,28 @@
--- `cipher::rounds::mix_columns` meets its contract. The loop's invariant: the first i bytes are those of the mixed columns.
-use Rattle.cipher.proofs.Tables.{Filled, filled-start, filled-next, filled-done}
-use Rattle.cipher.specs.Rounds.{mixedEntry, MixColumns}
-use Rattle.cipher.specs.Tables.{tab}
+-- `cipher::rounds::mix_columns` meets its contract. The rows behind a lane's own are eight, sixteen and 24 lanes on.
+use Rattle.cipher.proofs.RoundLanes.{shows-mix}
 use borrow.Author.Needs.{needs}
-use native.Mathlib.Omega.{arith}
-use Prim.Native.Nat.{_-_, _/_, _%_}
 use Rattle.cipher.proofs.rounds.mix_columns.Statement.{statement}
 use Rattle.cipher.proofs.rounds.mix_columns.Tie as tie
 
-abbrev Inv-loop : tie.InvT-loop
-Inv-loop s t₀ i₀ t i = Filled (λ _ j. mixedEntry s (j % 4) (j / 4)) 16 t₀ i t
+rotated-requires : tie.Need-rotated-requires
+rotated-requires c κs = search needs
 
-abbrev μ-loop : tie.MeasureT-loop
-μ-loop s t₀ i₀ t i = 16 - i
+rotated-requires-2 : tie.Need-rotated-requires-2
+rotated-requires-2 c κs = search needs
 
-loop-holds : tie.Need-loop-holds Inv-loop μ-loop
-loop-holds c = filled-start _ 16 _ (search needs)
+rotated-requires-3 : tie.Need-rotated-requires-3
+rotated-requires-3 c κs = search needs
 
-mixed-entry-requires : tie.Need-mixed-entry-requires Inv-loop μ-loop
-mixed-entry-requires c κs = omega arith
+mixed-row-requires : tie.Need-mixed-row-requires
+mixed-row-requires c κs = search needs
 
-array-write-t : tie.Need-array-write-t Inv-loop μ-loop
-array-write-t c = omega arith
-
-add-i : tie.Need-add-i Inv-loop μ-loop
-add-i c = omega arith
-
-loop-less : tie.Need-loop-less Inv-loop μ-loop
-loop-less c = omega arith
-
-loop-again : tie.Need-loop-again Inv-loop μ-loop
-loop-again c = filled-next _ (c .before .before .loop .inv) (omega arith) (c .mixed-entry .ensures)
-
-returns : tie.Need-returns Inv-loop μ-loop
-unfolding MixColumns tab
-returns c = filled-done (c .before .loop .inv) (omega arith)
+returns : tie.Need-returns
+returns c =
+    λ s held.
+    shows-mix s _ held _ _ _ _ (c .before .before .before .rotated .ensures) (c .before .before .rotated2 .ensures) (c .before .rotated3 .ensures)
+    (c .mixed-row .ensures)
 
 pub mix-columns-spec : {M : Type 1} → statement M
 mix-columns-spec =
     tie.close
-    (tie.spec
-    Inv-loop
-    μ-loop
-    loop-holds
-    mixed-entry-requires
-    array-write-t
-    add-i
-    loop-less
-    loop-again
-    returns)
+    (tie.spec rotated-requires rotated-requires-2 rotated-requires-3 mixed-row-requires returns)

@@ -1,15 +1,11 @@
 -- `cipher::rounds::round` meets its contract. A round is its four transformations.
 use Rattle.cipher.specs.Cipher.{Round}
-use mathlib.Core.Path.{_∙_}
 use borrow.Author.Needs.{needs}
 use Rattle.cipher.proofs.rounds.round.Statement.{statement}
 use Rattle.cipher.proofs.rounds.round.Tie as tie
 
-sub-bytes-requires : tie.Need-sub-bytes-requires
-sub-bytes-requires c κs = search needs
-
-shift-rows-requires : tie.Need-shift-rows-requires
-shift-rows-requires c κs = search needs
+sub-and-shift-requires : tie.Need-sub-and-shift-requires
+sub-and-shift-requires c κs = search needs
 
 mix-columns-requires : tie.Need-mix-columns-requires
 mix-columns-requires c κs = search needs
@@ -19,14 +15,8 @@ add-round-key-requires c κs = search needs
 
 returns : tie.Need-returns
 unfolding Round
-returns c = c .add-round-key .ensures ∙ rw (c .before .mix-columns .ensures, c .before .before .shift-rows .ensures, c .before .before .before .sub-bytes .ensures)
+returns c = λ s held. c .add-round-key .ensures _ (c .before .mix-columns .ensures _ (c .before .before .sub-and-shift .ensures s held))
 
 pub round-spec : {M : Type 1} → statement M
 round-spec =
-    tie.close
-    (tie.spec
-    sub-bytes-requires
-    shift-rows-requires
-    mix-columns-requires
-    add-round-key-requires
-    returns)
+    tie.close (tie.spec sub-and-shift-requires mix-columns-requires add-round-key-requires returns)

@@ -1,7 +1,7 @@
 -- `cipher::schedule::fill` meets its contract. The loop's invariant: the first r rows are the schedule's.
-use Rattle.cipher.proofs.Tables.{Filled, filled-start, filled-next, filled-entry, filled-length, filled-done}
+use Rattle.planes.proofs.Tables.{Filled, filled-start, filled-next, filled-entry, filled-length, filled-done}
 use Rattle.cipher.specs.Contracts.{rowOf}
-use Rattle.cipher.specs.Tables.{tab}
+use Rattle.planes.specs.Tables.{tab}
 use lib.ListN.{length}
 use native.Mathlib.Omega.{arith}
 use mathlib.Core.List.{[]}

@@ -1,7 +1,7 @@
 -- `cipher::schedule::first_word` meets its contract. What is added to a row's first word is KEYEXPANSION's temp: turned where d divides r, and
 -- only substituted where not.
 use Rattle.cipher.proofs.KeyRows.{first-turned, first-substituted}
-use Rattle.cipher.specs.ByteField.{xor}
+use Rattle.planes.proofs.Bytes.{xor-is}
 use borrow.Author.Needs.{needs}
 use Rattle.cipher.proofs.schedule.first_word.Statement.{statement}
 use Rattle.cipher.proofs.schedule.first_word.Tie as tie
@@ -31,11 +31,11 @@ array-read-t22 : tie.Need-array-read-t22
 array-read-t22 c = search needs
 
 returns : tie.Need-returns
-unfolding xor
 returns c =
     let entry = c .before .before .before in
-    first-turned _ _ _ _ _ (entry .pre .0) (entry .pre .1) (c .before .before .sub-bytes .ensures) (c .round-constant .ensures)
-    (c .before .if1 .taken)
+    rw xor-is
+    (first-turned _ _ _ _ _ (entry .pre .0) (entry .pre .1) (c .before .before .sub-bytes .ensures) (c .round-constant .ensures)
+    (c .before .if1 .taken))
 
 array-read-t25 : tie.Need-array-read-t25
 array-read-t25 c = search needs

@@ -1,6 +1,6 @@
 -- `cipher::schedule::key_row` meets its contract. The loop's invariant: the first i bytes are the key's.
-use Rattle.cipher.proofs.Tables.{Filled, filled-start, filled-next, filled-done}
-use Rattle.cipher.specs.Tables.{at, tab}
+use Rattle.planes.proofs.Tables.{Filled, filled-start, filled-next, filled-done}
+use Rattle.planes.specs.Tables.{at, tab}
 use native.Mathlib.Omega.{arith}
 use mathlib.Core.Path.{refl}
 use Prim.Native.Nat.{_+_, _*_, _-_}

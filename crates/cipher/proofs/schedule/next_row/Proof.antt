@@ -1,9 +1,10 @@
 -- `cipher::schedule::next_row` meets its contract. The loop's invariant: the first i bytes are the next row's.
 use Rattle.cipher.proofs.KeyRows.{next-filled, next-grown}
-use Rattle.cipher.proofs.Tables.{Filled, filled-start, filled-done}
+use Rattle.planes.proofs.Tables.{Filled, filled-start, filled-done}
+use Rattle.planes.proofs.Bytes.{xor-is}
 use Rattle.cipher.specs.Contracts.{carried}
-use Rattle.cipher.specs.ByteField.{xor}
-use Rattle.cipher.specs.Tables.{at}
+use Rattle.planes.specs.Planes.{xor}
+use Rattle.planes.specs.Tables.{at}
 use borrow.Author.Needs.{needs}
 use native.Mathlib.Omega.{arith}
 use mathlib.Core.Path.{_∙_}
@@ -36,10 +37,10 @@ loop-less : tie.Need-loop-less Inv-loop μ-loop
 loop-less c = omega arith
 
 loop-again : tie.Need-loop-again Inv-loop μ-loop
-unfolding xor
 loop-again c =
     let args = c .before .before .before .args in
-    next-filled (args .t1) (args .t) _ (c .before .before .loop .inv) (omega arith) (c .added-byte .ensures)
+    rw (xor-is (at (args .t1) (c .before .before .loop .i)) (c .added-byte .result))
+    (next-filled (args .t1) (args .t) _ (c .before .before .loop .inv) (omega arith) (c .added-byte .ensures))
 
 returns : tie.Need-returns Inv-loop μ-loop
 returns c = filled-done (c .before .loop .inv) (omega arith) ∙ next-grown _ _

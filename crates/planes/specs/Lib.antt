@@ -1,0 +1,5 @@
+pub mod Tables
+pub mod ByteField
+pub mod Substitution
+pub mod Lanes
+pub mod Planes
