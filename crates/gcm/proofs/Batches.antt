@@ -94,37 +94,37 @@ module _ (text pad : List ℕ) (place n : ℕ) (fits : place + n ≤ length text
 
 -- ---- a batch
 
--- the blocks of n bytes have room in the pad
-pub batch-fits : {n b : ℕ} → n ≤ 256 → b ≡ blocks n → 16 * b ≤ 256
-batch-fits {n} h eb = omega (arith, blocks-value n)
+-- the blocks of n bytes have room in the pad, and hold them
+pub batch-fits : {n b : ℕ} → n ≤ 256 → b ≡ blocks n → (16 * b % 16 ≡ 0) × (n ≤ 16 * b) × (16 * b ≤ 256)
+batch-fits {n} h eb = (omega arith, omega (arith, le-blocks n), omega (arith, blocks-value n))
 
 -- the pad as a batch finds it
 abbrev pub blankPad : List ℕ
 blankPad = replicate 256 0
 
--- the part of it that b blocks fill, and that it keeps its length when part took its place
-pub pad-part : (b : ℕ) → 16 * b ≤ 256 → length (take (16 * b) blankPad) ≡ 16 * b
-pad-part b h = length-take-le (16 * b) blankPad h
+-- its first m bytes, and that it keeps its length when part took their place
+pub pad-part : (m : ℕ) → m ≤ 256 → length (take m blankPad) ≡ m
+pad-part m h = length-take-le m blankPad h
 
-pub pad-kept : (b : ℕ) (part : List ℕ) → length part ≡ length (take (16 * b) blankPad) → length (part ++ drop (16 * b) blankPad) ≡ 256
-pad-kept b part e = length-front blankPad part (16 * b) e
+pub pad-kept : (m : ℕ) (part : List ℕ) → length part ≡ length (take m blankPad) → length (part ++ drop m blankPad) ≡ 256
+pad-kept m part e = length-front blankPad part m e
 
--- the pad's first b blocks became part, the key stream of a place; what is stored, added to the text there, is GCTR's bytes
-pub batch-turned : (key : List ℕ) (j : Block) (text pad : List ℕ) (place n b : ℕ) (out : List ℕ) {part t : List ℕ} → place % 16 ≡ 0
-    → place + n ≤ length text → b ≡ blocks n → length (take (16 * b) pad) ≡ 16 * b
-    → part ≡ keyStream key (bytesOf j) (place / 16 + 1) (length (take (16 * b) pad) / 16)
-    → t ≡ sets out place (added text (part ++ drop (16 * b) pad) place n)
+-- the pad's first m bytes, whole blocks, became part, the key stream of a place; what is stored, added to the text there, is GCTR's bytes
+pub batch-turned : (key : List ℕ) (j : Block) (text pad : List ℕ) (place n m : ℕ) (out : List ℕ) {part t : List ℕ} → place % 16 ≡ 0
+    → place + n ≤ length text → m % 16 ≡ 0 → n ≤ m → length (take m pad) ≡ m
+    → part ≡ keyStream key (bytesOf j) (place / 16 + 1) (length (take m pad) / 16)
+    → t ≡ sets out place (added text (part ++ drop m pad) place n)
     → t ≡ sets out place (take n (drop place (GCTR key (inc32 (bytesOf j)) text)))
-batch-turned key j text pad place n b out m h eb size ep et =
-    let rest = drop (16 * b) pad in
-    let s = keyStream key (bytesOf j) (place / 16 + 1) (blocks n) in
-    let count : length (take (16 * b) pad) / 16 ≡ blocks n = omega arith in
-    let size-s : length s ≡ 16 * blocks n = length-stream key (bytesOf j) (place / 16 + 1) (blocks n) in
+batch-turned key j text pad place n m out whole h blocks room size ep et =
+    let rest = drop m pad in
+    let s = keyStream key (bytesOf j) (place / 16 + 1) (m / 16) in
+    let count : length (take m pad) / 16 ≡ m / 16 = ap (λ (x : ℕ). x / 16) size in
+    let size-s : length s ≡ 16 * (m / 16) = length-stream key (bytesOf j) (place / 16 + 1) (m / 16) in
     et
     ∙ ap (sets out place)
     (ap (λ (x : List ℕ). added text (x ++ rest) place n) (ep ∙ ap (keyStream key (bytesOf j) (place / 16 + 1)) count)
-    ∙ ap (xorBytes (take n (drop place text))) (take-append-le n s rest (omega (arith, le-blocks n)))
-    ∙ turned-part key j text place n m h)
+    ∙ ap (xorBytes (take n (drop place text))) (take-append-le n s rest (omega arith))
+    ∙ turned-part key j text place n (m / 16) whole h (omega arith))
 
 -- ---- a text turned
 

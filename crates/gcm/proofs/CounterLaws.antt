@@ -196,18 +196,18 @@ getD-GCTR key icb x k h =
     ∙ getD-stream key icb 0 (blocks (length x)) k (omega (arith, le-blocks (length x)))
     ∙ ap (λ (i : ℕ). getD (bytesOf (CIPH key (CB icb i))) (k % 16) 0) (zero-add (k / 16)))
 
--- so code makes n bytes of it from a place on that is a block's: the text there and as much of the key stream, which begins behind j
-pub turned-part : (key : List ℕ) (j : Block) (text : List ℕ) (place n : ℕ) → place % 16 ≡ 0 → place + n ≤ length text
-    → xorBytes (take n (drop place text)) (take n (keyStream key (bytesOf j) (place / 16 + 1) (blocks n)))
+-- so code makes n bytes of it from a place on that is a block's: the text there and as much of b blocks of the key stream, which begins behind j
+pub turned-part : (key : List ℕ) (j : Block) (text : List ℕ) (place n b : ℕ) → place % 16 ≡ 0 → place + n ≤ length text → n ≤ 16 * b
+    → xorBytes (take n (drop place text)) (take n (keyStream key (bytesOf j) (place / 16 + 1) b))
     ≡ take n (drop place (GCTR key (inc32 (bytesOf j)) text))
-turned-part key j text place n m h =
+turned-part key j text place n b m h room =
     let icb = bytesOf j in
     let x = take n (drop place text) in
-    let s = keyStream key icb (place / 16 + 1) (blocks n) in
+    let s = keyStream key icb (place / 16 + 1) b in
     let y = GCTR key (inc32 icb) text in
     let size-x : length x ≡ n = length-take-le n (drop place text) (rw length-drop (omega arith)) in
     let size-s : length (take n s) ≡ n =
-    length-take-le n s (omega (arith, length-stream key icb (place / 16 + 1) (blocks n), le-blocks n))
+    length-take-le n s (omega (arith, length-stream key icb (place / 16 + 1) b))
     in
     let size-y : length (take n (drop place y)) ≡ n =
     length-take-le n (drop place y) (rw length-drop (omega (arith, length-GCTR key (inc32 icb) text)))
@@ -220,7 +220,7 @@ turned-part key j text place n m h =
     let byte : (place + k) % 16 ≡ k % 16 = omega arith in
     getD-bits x (take n s) k
     ∙ ap₂ bitXor (getD-take n (drop place text) k 0 few ∙ getD-drop place text k 0)
-    (getD-take n s k 0 few ∙ getD-stream key icb (place / 16 + 1) (blocks n) k (omega (arith, le-blocks n)))
+    (getD-take n s k 0 few ∙ getD-stream key icb (place / 16 + 1) b k (omega arith))
     ∙ sym
     (getD-take n (drop place y) k 0 few
     ∙ getD-drop place y k 0

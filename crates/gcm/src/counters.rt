@@ -17,6 +17,9 @@ ghost use Rattle.gcm.specs.Contracts.{counters, keyStream};
 // How many bytes of key stream are made at a time.
 const BATCH: usize = 256;
 
+// Up to how many bytes blocks are enciphered one by one. Of more a whole batch is made, since sixteen blocks at once take less time than three alone.
+const FEW: usize = 32;
+
 // The cipher of one block, as a block, under the key whose rows they are. The requires: a schedule has two rows and more.
 pub fn ciphered(rows: &[[u8; 16]], block: [u8; 16]) -> Block
     requires { ⌜ 2 ≤ length (now rows) ⌝ }
@@ -84,10 +87,21 @@ fn turn(rows: &[[u8; 16]], j: Block, text: &[u8], at: usize, n: usize, out: &mut
         → now (out .exit) ≡ sets (now (out .entry)) at (take n (drop at (GCTR key (inc32 (bytesOf j)) (now (text .entry)))))) ⌝ }
 {
     let mut pad = [0u8; BATCH];
-    let whole = 16 * blocks(n as u64) as usize;
+    let whole = stream_bytes(n);
     let first = (at / 16 + 1) as u64;
     key_stream(rows, j, first, &mut pad[..whole]);
     add(text, &pad, at, n, out);
+}
+
+// How many bytes of key stream are made for n bytes: the blocks that they need, or the whole batch.
+fn stream_bytes(n: usize) -> usize
+    requires { ⌜ n ≤ 256 ⌝ }
+    ensures { λ r. ⌜ (r % 16 ≡ 0) × (n ≤ r) × (r ≤ 256) ⌝ }
+{
+    if n > FEW {
+        return BATCH;
+    }
+    16 * blocks(n as u64) as usize
 }
 
 // GCTR of a text from the counter block behind j on, written to out. The requires: out is as long as the text, which has at most as many

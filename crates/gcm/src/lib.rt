@@ -46,7 +46,7 @@ pub enum Answer {
 
 // GMAC of a under a key and a nonce, written to out. Refused, in this order, where the key is not 16 bytes, where the nonce is empty,
 // where out is not sixteen bytes, and where the nonce or a is longer than 2^61 - 1 bytes; out then stays as it was. The time depends
-// on the lengths alone, but for the cipher's table.
+// on the lengths alone.
 pub fn gmac(key: &[u8], nonce: &[u8], a: &[u8], out: &mut [u8]) -> Answer
     ensures answer { λ r. ⌜ answerRefusal r ≡ gmacRefusal (now (key .entry)) (now (nonce .entry)) (now (a .entry)) (now (out .entry)) ⌝ }
     ensures output { λ _. ⌜ now (out .exit) ≡ gmacOutput (now (key .entry)) (now (nonce .entry)) (now (a .entry)) (now (out .entry)) ⌝ }
@@ -64,7 +64,7 @@ pub fn gmac(key: &[u8], nonce: &[u8], a: &[u8], out: &mut [u8]) -> Answer
 // Encrypts a text under a key and a nonce: out gets the ciphertext, and tag the tag of it and of the associated data a. Refused, in this
 // order, where the key is not 16 bytes, where the nonce is empty, where the tag is not 16 bytes or text and out differ in length, where the
 // nonce or a is longer than 2^61 - 1 bytes, and where the text is longer than 2^36 - 32; out and tag then stay as they were. The time depends
-// on the lengths alone, but for the cipher's table. A nonce is used once with a key.
+// on the lengths alone. A nonce is used once with a key.
 pub fn encrypt(
     key: &[u8],
     nonce: &[u8],
@@ -91,7 +91,7 @@ pub fn encrypt(
 
 // Decrypts a text under a key and a nonce: where the tag is that of the text and of the associated data a, out gets the plaintext. Refused,
 // in this order, as encrypt is, and last where the tag does not fit; out then stays as it was. The text is hashed first, and nothing is
-// decrypted before the tag is known to fit. The time depends on the lengths and on whether the tag fits, but for the cipher's table.
+// decrypted before the tag is known to fit. The time depends on the lengths and on whether the tag fits.
 pub fn decrypt(
     key: &[u8],
     nonce: &[u8],
