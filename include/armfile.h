@@ -51,33 +51,31 @@
  * TIME
  *
  * The code has no branch and no address that depends on a key, on a hash key,
- * on a running sum, on a file's bytes or on a text, with two exceptions. The
- * cipher's substitution table is looked up at addresses that depend on key and
- * block, so on a machine with a data cache the cipher (armfile_encrypt,
- * armfile_gmac, armfile_gcm_encrypt, armfile_gcm_decrypt, armfile_start,
- * armfile_read, armfile_seal, armfile_check) is not constant-time. And there is
- * one jump in armfile_check on the verdict, and one in armfile_gcm_decrypt on
- * whether the tag fits; both are public once the call has answered. Two tags
- * are compared by one test of all their bits. Time does depend on lengths, on
- * places (p, n), on the arm number, on seal numbers, on a slip's bytes outside
- * its tag and on the heads of a journal's records; these are taken for public.
- * This is observed of the compiled library (tests/ct), and is not part of what
- * is proved.
+ * on a running sum, on a file's bytes or on a text, but for one jump in
+ * armfile_check on the verdict, and one in armfile_gcm_decrypt on whether the
+ * tag fits; both are public once the call has answered. Two tags are compared
+ * by one test of all their bits. The cipher has no table: it computes its
+ * substitution by gates on bits. Time does depend on lengths, on places (p, n),
+ * on the arm number, on seal numbers, on a slip's bytes outside its tag and on
+ * the heads of a journal's records; these are taken for public. This is
+ * observed of the compiled library (tests/ct), and is not part of what is
+ * proved.
  *
  * STACK
  *
  * Bytes of stack that a call takes, with its return address and the arguments
- * that go by the stack. They are the same at every length above 0, and at 0 no
- * more. This is measured (tests/stack), and is not part of what is proved:
+ * that go by the stack. They are the same at every length above 0, but for the
+ * two of GCM, which take less at some, and at 0 no more. This is measured
+ * (tests/stack), and is not part of what is proved:
  *
- *      armfile_encrypt       736      armfile_prepend      704
+ *      armfile_encrypt      1000      armfile_prepend      704
  *      armfile_multiply      160      armfile_drop_front   704
  *      armfile_ghash         480      armfile_cut_tail     704
- *      armfile_gmac         1200      armfile_replay       960
- *      armfile_gcm_encrypt  1552      armfile_seal        1168
- *      armfile_gcm_decrypt  1536      armfile_check       1024
- *      armfile_start         880      armfile_length         8
- *      armfile_read          896      armfile_arm            8
+ *      armfile_gmac         1464      armfile_replay       960
+ *      armfile_gcm_encrypt  3368      armfile_seal        1432
+ *      armfile_gcm_decrypt  3352      armfile_check       1288
+ *      armfile_start        1144      armfile_length         8
+ *      armfile_read         1160      armfile_arm            8
  *      armfile_change        704      armfile_last           8
  *      armfile_append        704
  *
@@ -85,15 +83,14 @@
  *
  * A call leaves on the stack, below its caller's frame, what it worked with:
  * keys, hash keys, H, I and sums were found there after every call but the
- * three that read a state's fields, and after armfile_gcm_decrypt also key
- * stream, which is as good as the text to whoever has the ciphertext. The
- * library wipes nothing: what the compiler copies where is out of the source's
- * reach. A caller into whose stack somebody else may look wipes, after the last
- * call,
+ * three that read a state's fields, and after the two of GCM also key stream,
+ * which is as good as the text to whoever has the ciphertext. The library wipes
+ * nothing: what the compiler copies where is out of the source's reach. A
+ * caller into whose stack somebody else may look wipes, after the last call,
  *
  *  - the stack below itself, by calling, from the function that made the calls,
  *    one that is not inlined and overwrites at least as many bytes as the
- *    largest figure above (examples/c/seal.c overwrites 2048; nothing was found
+ *    largest figure above (examples/c/seal.c overwrites 4096; nothing was found
  *    after it);
  *  - every state that is no longer used, copies too: it holds the key;
  *  - its own copies of the key, and of texts that nobody else is to read.
@@ -108,23 +105,23 @@
  * one run; other runs there took from nine tenths to nearly twice as long. Take
  * them as orders of magnitude, and `make cost` for your own machine:
  *
- *      armfile_start                                    63 000
- *      armfile_read of 1 KiB, of 1 MiB        82 000, 18 000 000
- *      armfile_append of 16 bytes, of 4 KiB          870, 68 000
- *      armfile_change of 16 bytes, first of 1 GiB       13 000
- *      armfile_cut_tail of 16 bytes                        890
- *      armfile_seal, armfile_check                2 600, 2 600
- *      armfile_gmac of 1 KiB                            23 000
- *      armfile_gcm_encrypt of 1 KiB, of 1 MiB 110 000, 111 000 000
- *      armfile_gcm_decrypt of 1 KiB                    106 000
- *      armfile_encrypt, armfile_multiply            2 200, 300
+ *      armfile_start                                    57 000
+ *      armfile_read of 1 KiB, of 1 MiB        73 000, 16 000 000
+ *      armfile_append of 16 bytes, of 4 KiB          800, 64 000
+ *      armfile_change of 16 bytes, first of 1 GiB       12 000
+ *      armfile_cut_tail of 16 bytes                        810
+ *      armfile_seal, armfile_check                1 400, 1 400
+ *      armfile_gmac of 1 KiB                            18 000
+ *      armfile_gcm_encrypt of 1 KiB, of 1 MiB 23 000, 22 000 000
+ *      armfile_gcm_decrypt of 1 KiB                     23 000
+ *      armfile_encrypt, armfile_multiply            1 100, 270
  *
- * Most of it is products of blocks, about 280 each in a long run; an edit
+ * Most of it is products of blocks, about 250 each in a long run; an edit
  * returns how many it took. What armfile_start and armfile_read take besides
  * the file is H's companion I, some 250 products. A replay takes a little less
- * than its edits when they are made singly. Most of GCM is blocks of the
- * cipher, about 1 400 each (what an encryption of 1 MiB takes more than a
- * read of it).
+ * than its edits when they are made singly. Of GCM the cipher takes about a
+ * quarter, some 90 a block (what an encryption of 1 MiB takes more than a read
+ * of it), and of up to two blocks behind the last sixteen some 600 each.
  *
  * THE STATE
  *

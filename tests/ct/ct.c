@@ -36,13 +36,14 @@
 #define MOST 100
 #define HEAD 12 /* a record's: kind, p and l */
 #define RECORDS 6
-#define TEXT 300 /* the longest text of GCM: more than a batch of sixteen blocks */
+#define TEXT 560 /* the longest text of GCM: two batches of sixteen blocks, and 48 bytes */
 
 static const size_t lengths[] = {0, 1, 15, 16, 17, 32, 33, 64, MOST};
 #define LENGTHS (sizeof lengths / sizeof lengths[0])
 static const size_t nonces[] = {1, 12, 16, 17};
 #define NONCES (sizeof nonces / sizeof nonces[0])
-static const size_t texts[] = {0, 1, 16, 17, 255, 256, 257, TEXT};
+/* Up to 32 bytes, of a text or behind whole batches, are made block by block, and more by sixteen blocks at once. */
+static const size_t texts[] = {0, 1, 16, 17, 32, 33, 48, 240, 255, 256, 257, 288, 289, 300, TEXT};
 #define TEXTS (sizeof texts / sizeof texts[0])
 
 static unsigned calls, comparisons, jumps;
@@ -395,7 +396,7 @@ static void on_seal(void) {
  * not. */
 static void compared(unsigned reports, int defined) {
     if (reports > 1)
-        fail("a comparison of tags jumps on less than its outcome");
+        fail("a call that compares tags has more reports than its one jump on the outcome");
     if (defined != (reports == 1))
         fail("the outcome of a comparison of tags is not settled by one jump");
     comparisons++;
@@ -458,7 +459,7 @@ static void one_decryption(const struct message *sent, const uint8_t *text, int 
     }
 }
 
-/* Every bit of a tag turned for three messages, and two bits for the others. */
+/* Every bit of a tag turned for three messages, of no text, of less than a batch and of more, and two bits for the others. */
 static void on_gcm_decrypt(void) {
     for (size_t i = 0; i < TEXTS; i++)
         for (size_t j = 0; j < NONCES; j++) {
@@ -466,7 +467,7 @@ static void on_gcm_decrypt(void) {
             answered(GCM(armfile_gcm_encrypt, &plain, 16, texts[i], 16), 0);
             memcpy(sent.text, plain.out, TEXT);
             memcpy(sent.tag, plain.tag, 16);
-            for (int bit = -1; bit < 128; bit += i + j == 2 ? 1 : 43)
+            for (int bit = -1; bit < 128; bit += j == 1 && i % 7 == 0 ? 1 : 43)
                 one_decryption(&sent, plain.text, bit);
             hide_message(&sent);
             answered(GCM(armfile_gcm_decrypt, &sent, 15, texts[i], 16), 1);

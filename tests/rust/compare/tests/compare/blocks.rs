@@ -2,20 +2,27 @@
 
 use compare::{Call, Case, Lent};
 
-use crate::choose::{block, output, LENGTHS, SIZES};
+use crate::choose::{block, output, plain, LENGTHS, PLAIN, SIZES};
 
 /// x^i times x^j for all j, i the case's index. The product is linear in each
 /// factor, so these are all that its steps can do.
 pub fn single_bits(case: &mut Case) {
-    let bit = |i: usize| {
-        let mut block = vec![0; 16];
-        block[i / 8] = 0x80 >> (i % 8);
-        block
-    };
     for j in 0..128 {
         let call = Call::Multiply {
-            a: bit(case.index() as usize),
-            b: bit(j),
+            a: plain(case.index() as usize),
+            b: plain(j),
+        };
+        with_output(case, &call, 16);
+    }
+}
+
+/// Blocks of one bit, of zeros and of ones, under the key of the case's index
+/// among such blocks.
+pub fn plain_blocks(case: &mut Case) {
+    for number in 0..PLAIN {
+        let call = Call::Encrypt {
+            key: plain(case.index() as usize),
+            block: plain(number),
         };
         with_output(case, &call, 16);
     }

@@ -66,6 +66,22 @@ pub fn block(random: &mut Random) -> Vec<u8> {
     block
 }
 
+/// How many blocks of `plain` there are.
+pub const PLAIN: usize = 130;
+
+/// The block with the one bit of this number, or of zeros, or of ones.
+pub fn plain(number: usize) -> Vec<u8> {
+    match number {
+        0..128 => {
+            let mut block = vec![0; 16];
+            block[number / 8] = 0x80 >> (number % 8);
+            block
+        }
+        128 => vec![0; 16],
+        _ => vec![0xff; 16],
+    }
+}
+
 /// An output of a size, filled with what a call must not leave or must leave.
 pub fn output(random: &mut Random, size: usize) -> Vec<u8> {
     vec![random.number() as u8; size]

@@ -4,7 +4,7 @@ use compare::{Call, Case, Lent, Message};
 use reference::gcm::nonce_of;
 use reference::ghash::hash_key;
 
-use crate::choose::{block, one_of, output, SIZES, TEXTS};
+use crate::choose::{block, one_of, output, plain, PLAIN, SIZES, TEXTS};
 
 /// A message with parts of these lengths.
 pub fn some_message(case: &mut Case, nonce: usize, aad: usize, text: usize) -> Message {
@@ -236,6 +236,39 @@ pub fn sets_of_causes(case: &mut Case) {
     }
 }
 
+/// Texts around as many whole batches of sixteen blocks as the case's index
+/// and one more, with up to 32 bytes behind them, and with more than that.
+pub fn around_batches(case: &mut Case) {
+    let whole = 256 * (case.index() as usize + 1);
+    for text in [whole - 1, whole, whole + 1, whole + 32, whole + 33] {
+        let message = some_message(case, 12, 5, text);
+        carried(case, &message);
+    }
+}
+
+/// A message of this many bytes under a nonce that becomes the block j.
+fn message_from(case: &mut Case, key: &[u8], j: &[u8], text: usize) -> Message {
+    let key: [u8; 16] = key.try_into().expect("16 bytes");
+    let j = j.try_into().expect("16 bytes");
+    Message {
+        key: key.to_vec(),
+        nonce: nonce_of(&hash_key(&key), &j).to_vec(),
+        ..some_message(case, 0, 20, text)
+    }
+}
+
+/// Keys and blocks j of one bit, of zeros and of ones, by the case's index, in
+/// both ways of making blocks: sixteen at once, and one by one.
+pub fn plain_counters(case: &mut Case) {
+    let one = plain(case.index() as usize);
+    let any = plain(case.random.below(PLAIN as u64) as usize);
+    let random = case.random.bytes(16);
+    for (key, j) in [(&one, &one), (&one, &any), (&any, &one), (&random, &one)] {
+        let message = message_from(case, key, j, 256 + 32);
+        carried(case, &message);
+    }
+}
+
 /// Counters whose last 32 bits pass 2^32 - 1 within the text, after as many
 /// blocks as the case's index; the first 96 bits are random, all ones or all
 /// zeros.
@@ -245,13 +278,8 @@ pub fn counters_wrap(case: &mut Case) {
         let key = case.random.block();
         let mut j = first;
         j[12..].copy_from_slice(&(u32::MAX - before).to_be_bytes());
-        let nonce = nonce_of(&hash_key(&key), &j);
         for text in [16 * before as usize + 1, 16 * 55 + 5] {
-            let message = Message {
-                key: key.to_vec(),
-                nonce: nonce.to_vec(),
-                ..some_message(case, 0, 20, text)
-            };
+            let message = message_from(case, &key, &j, text);
             carried(case, &message);
         }
     }

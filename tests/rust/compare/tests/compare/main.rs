@@ -59,6 +59,9 @@ const PARTS: &[Part] = &[
     ("gcm, wrong lengths", 13, gcm::wrong_lengths),
     ("gcm, sets of causes", 32, gcm::sets_of_causes),
     ("gcm, counters that wrap", 54, gcm::counters_wrap),
+    ("encryptions of single bits", 130, blocks::plain_blocks),
+    ("gcm, around whole batches", 32, gcm::around_batches),
+    ("gcm, counters of single bits", 130, gcm::plain_counters),
 ];
 
 fn main() {
