@@ -12,7 +12,7 @@ use Rattle.field.specs.Bytes.{number, bytes, xorBytes}
 use Rattle.field.specs.Blocks.{_⊕_, zeroBlock, Small, value, block, blockAt, bytesOf}
 use Rattle.field.proofs.Values.{value-lt, value-block, block-value, small-block}
 use Rattle.field.proofs.Ring.{value-⊕, block-xor}
-use Rattle.field.proofs.Bytes.{number-lt, number-append-left, number-append-right, number-past, number-padded, number-zeros}
+use Rattle.field.proofs.Bytes.{number-lt, number-append-left, number-append-right, number-drop, number-past, number-padded, number-zeros}
 use Rattle.field.proofs.Bytes.{number-bytes, bytes-number, length-bytes}
 use Rattle.field.proofs.XorBytes.{number-xor, bytes-xor}
 
@@ -34,6 +34,13 @@ unfolding blockAt
 blockAt-append-right s t j i e =
     let at : 16 * (j + i) ≡ length s + 16 * i = omega arith in
     ap block (ap (λ (x : ℕ). number (s ++ t) x 16) at ∙ number-append-right s t (16 * i) 16)
+
+-- a block of what is left of a list without its first j blocks
+pub blockAt-drop : (s : List ℕ) (j i : ℕ) → blockAt (drop (16 * j) s) i ≡ blockAt s (j + i)
+unfolding blockAt
+blockAt-drop s j i =
+    let at : 16 * j + 16 * i ≡ 16 * (j + i) = omega arith in
+    ap block (number-drop s (16 * j) (16 * i) 16 ∙ ap (λ (x : ℕ). number s x 16) at)
 
 -- zero bytes behind a list change no block of it
 pub blockAt-padded : (s : List ℕ) (r i : ℕ) → blockAt (s ++ replicate r 0) i ≡ blockAt s i

@@ -8,7 +8,8 @@ use lib.ListN.{replicate}
 use lib.Count.{ones, onesIn}
 use lib.Dec.{lit<}
 use Rattle.field.specs.declared.blocks.Block.{Block}
-use Rattle.field.specs.Elements.{xor, only, R, shifted}
+use Rattle.clmul.specs.Xor.{xor, only}
+use Rattle.field.specs.Elements.{R, shifted}
 use Rattle.field.specs.Bytes.{number, bytes}
 use Rattle.field.specs.Blocks.{block, zeroBlock, one, _⊕_, _•_, blockAt}
 use Rattle.field.specs.Powers.{digitsIn, width, steps}

@@ -7,10 +7,11 @@ use native.Mathlib.Nat.{two-pow-succ}
 use lib.Pow.{pow-pos}
 use lib.Dec.{lit<}
 use Rattle.field.specs.declared.blocks.Block.{Block}
-use Rattle.field.specs.Elements.{xor, times}
+use Rattle.clmul.specs.Xor.{xor}
+use Rattle.field.specs.Elements.{times}
 use Rattle.field.specs.Blocks.{value, block, Small, zeroBlock, one, _⊕_, _•_}
 use Rattle.field.specs.Powers.{power, companion}
-use Rattle.field.proofs.Xor.{xor-lt}
+use Rattle.clmul.proofs.Xor.{xor-lt}
 use Rattle.field.proofs.Span.{shifted-lt, one-lt, span}
 use Rattle.field.proofs.Product.{times-x}
 use Rattle.field.proofs.Values.{value-lt, block-value, small-block, small-zero, small-one}

@@ -6,7 +6,7 @@ use mathlib.Core.List.{List, _++_}
 use Prim.Native.Nat.{ℕ, zero, suc, _+_, _-_, _*_, _≤_, _<_}
 use native.Mathlib.Nat.{le-refl, le-step, le-of-lt, add-zero, add-suc}
 use native.Mathlib.Omega.{arith}
-use lib.ListN.{length, replicate, length-append}
+use lib.ListN.{length, drop, replicate, length-append, length-drop}
 use Rattle.field.specs.declared.blocks.Block.{Block}
 use Rattle.field.specs.Bytes.{xorBytes}
 use Rattle.field.specs.Blocks.{_⊕_, _•_, zeroBlock, one, Small, blockAt}
@@ -15,7 +15,7 @@ use Rattle.field.specs.Sums.{blocks, terms, sum}
 use Rattle.field.specs.Ghash.{Yᵢ}
 use Rattle.field.proofs.Values.{small-zero}
 use Rattle.field.proofs.Ring.{⊕-assoc, ⊕-swap, ⊕-self, ⊕-zero, zero-⊕, •-assoc, ⊕-•, zero-•, •-one, small-⊕, small-•}
-use Rattle.field.proofs.BlockAt.{small-blockAt, blockAt-append-left, blockAt-append-right, blockAt-padded, blockAt-past}
+use Rattle.field.proofs.BlockAt.{small-blockAt, blockAt-append-left, blockAt-append-right, blockAt-drop, blockAt-padded, blockAt-past}
 use Rattle.field.proofs.BlockAt.{blockAt-zeros, blockAt-xor}
 use Rattle.field.proofs.BlockCounts.{blocks-whole, blocks-times}
 
@@ -51,6 +51,21 @@ Yᵢ-append-all h y s t j e =
     ap (Yᵢ h y (s ++ t)) all
     ∙ Yᵢ-append h y s t j (blocks (length t)) e
     ∙ ap (λ (n : ℕ). Yᵢ h (Yᵢ h y s n) t (blocks (length t))) front
+
+-- the same over one list: past its first j blocks, it goes on over what is left of the list
+pub Yᵢ-drop : (h y : Block) (s : List ℕ) (j i : ℕ) → Yᵢ h y s (j + i) ≡ Yᵢ h (Yᵢ h y s j) (drop (16 * j) s) i
+unfolding Yᵢ
+Yᵢ-drop h y s j zero = ap (Yᵢ h y s) (add-zero j)
+Yᵢ-drop h y s j (suc i) =
+    ap (Yᵢ h y s) (add-suc j i) ∙ ap₂ (λ (a b : Block). (a ⊕ b) • h) (Yᵢ-drop h y s j i) (sym (blockAt-drop s j i))
+
+-- and with every block
+pub Yᵢ-drop-all : (h y : Block) (s : List ℕ) (j : ℕ) → 16 * j ≤ length s
+    → Yᵢ h (Yᵢ h y s j) (drop (16 * j) s) (blocks (length (drop (16 * j) s))) ≡ Yᵢ h y s (blocks (length s))
+Yᵢ-drop-all h y s j l =
+    let r = length (drop (16 * j) s) in
+    let all : 16 * j + r ≡ length s = omega (arith, length-drop (16 * j) s) in
+    sym (Yᵢ-drop h y s j (blocks r)) ∙ ap (Yᵢ h y s) (sym (blocks-whole j r) ∙ ap blocks all)
 
 -- zero bytes behind a list change no block
 pub Yᵢ-padded : (h y : Block) (s : List ℕ) (r i : ℕ) → Yᵢ h y (s ++ replicate r 0) i ≡ Yᵢ h y s i

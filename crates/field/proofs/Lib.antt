@@ -1,7 +1,5 @@
 -- The field's laws, from the bottom up. The layers above use those of Values, Ring, Powers, Bytes, XorBytes, BlockAt,
 -- BlockCounts, Horner, Sums, Hash, Stream, Steps, FieldBench and Stores; the others serve these or this crate's functions.
-pub mod Commutative
-pub mod Xor
 pub mod Span
 pub mod Recursion
 pub mod Product
@@ -11,6 +9,7 @@ pub mod Powers
 pub mod ComputedTests
 pub mod Squares
 pub mod Frobenius
+pub mod Reduction
 pub mod Bytes
 pub mod XorBytes
 pub mod BlockAt
@@ -21,10 +20,11 @@ pub mod Hash
 pub mod Stream
 pub mod Steps
 pub mod FieldBench
+pub mod ReductionWords
 pub mod Words
-pub mod Turns
 pub mod Stores
 pub mod Packed
 pub mod Folds
+pub mod BatchLaws
 pub mod Seek
 pub mod Refusals

@@ -7,15 +7,17 @@ use Prim.Native.Nat.{ℕ, suc, _+_, _-_, _*_, _/_, _%_, _^_, _≤_, _<_}
 use native.Mathlib.Nat.{pow-le-pow-right, zero-lt-suc, mod-eq-of-lt, lt-of-lt-of-le}
 use native.Mathlib.Numerals.{add-one}
 use native.Mathlib.Omega.{arith}
-use lib.ListN.{length, getD, set, replicate, length-set, length-replicate, getD-replicate, List·getD-append, List·getD-eq-default}
+use mir.Syntax.{w8, w64}
+use mir.Val.{Fits}
+use lib.ListN.{length, getD, set, replicate, length-append, length-set, length-replicate, getD-replicate, List·getD-append, List·getD-eq-default}
 use lib.Seq.{getD-append-add, sets}
 use Rattle.field.specs.declared.blocks.Block.{Block}
 use Rattle.field.specs.Bytes.{number, bytes}
 use Rattle.field.specs.Blocks.{Small, value, block, blockAt, bytesOf}
-use Rattle.field.proofs.Values.{words, block-words, value-small}
-use Rattle.field.proofs.Bytes.{number-lt, number-split, length-bytes, bytes-append}
+use Rattle.field.proofs.Values.{words, block-words, value-small, zero-words}
+use Rattle.field.proofs.Bytes.{number-lt, number-append-right, number-split, length-bytes, bytes-append}
 use Rattle.field.proofs.Stores.{sets-snoc, sets-append, sets-whole}
-use Rattle.field.proofs.BlockAt.{length-bytesOf}
+use Rattle.field.proofs.BlockAt.{length-bytesOf, blockAt-past}
 
 -- ---- lead zero bytes in front of a list
 
@@ -33,6 +35,12 @@ past-lead lead s v h =
 pub past-end : (lead : ℕ) (s : List ℕ) (v : ℕ) → lead ≤ v → length s ≤ v - lead → 0 ≡ getD (replicate lead 0 ++ s) v 0
 past-end lead s v h l = sym (List·getD-eq-default s 0 l) ∙ past-lead lead s v h
 
+-- a number that lies behind them
+number-lead : (lead : ℕ) (s : List ℕ) (at k : ℕ) → lead ≤ at → number s (at - lead) k ≡ number (replicate lead 0 ++ s) at k
+number-lead lead s at k h =
+    let e : length {A = ℕ} (replicate lead 0) + (at - lead) ≡ at = rw length-replicate (omega arith) in
+    sym (number-append-right (replicate lead 0) s (at - lead) k) ∙ ap (λ (i : ℕ). number (replicate lead 0 ++ s) i k) e
+
 -- ---- a word read byte by byte
 
 -- n is the number of the first k of the bytes to read
@@ -48,6 +56,10 @@ reading-start s at size = record { within = omega arith; is = refl }
 pub reading-lt : {s : List ℕ} {at size n k : ℕ} → Reading s at size n k → size ≤ 8 → k < size → n < 2 ^ 56
 reading-lt {s} {at} {size} {n} {k} r h l =
     rw (r .is) (lt-of-lt-of-le (number-lt s at k) (pow-le-pow-right (zero-lt-suc 255) {i = k} {j = 7} (omega arith)))
+
+-- so a word holds it with the byte
+pub reading-fits : {s : List ℕ} {at size n k b : ℕ} → Reading s at size n k → size ≤ 8 → k < size → Fits w8 b → Fits w64 (n * 256 + b)
+reading-fits r h l small = omega (arith, reading-lt r h l, small)
 
 pub reading-next : {s : List ℕ} {at size n k : ℕ} (b : ℕ) → Reading s at size n k → k < size → b < 256 → b ≡ getD s (at + k) 0
     → Reading s at size (n * 256 + b) (k + 1)
@@ -108,6 +120,20 @@ blockAt-words s i hi lo e f =
     block-words hi lo (rw f (number-lt s (16 * i + 8) 8))
     ∙ ap₂ (λ (x y : ℕ). block (x * 2 ^ 64 + y)) e f
     ∙ ap block (sym (number-split s (16 * i) 8 8))
+
+-- the same behind lead zero bytes: the words stand in the list itself
+pub blockAt-inside : (lead : ℕ) (s : List ℕ) (i : ℕ) {hi lo : ℕ} → lead ≤ 16 * i → hi ≡ number s (16 * i - lead) 8
+    → lo ≡ number s (16 * i - lead + 8) 8 → words hi lo ≡ blockAt (replicate lead 0 ++ s) i
+blockAt-inside lead s i h e f =
+    let next : 16 * i - lead + 8 ≡ 16 * i + 8 - lead = omega arith in
+    blockAt-words (replicate lead 0 ++ s) i _ _ (e ∙ number-lead lead s (16 * i) 8 h)
+    (f ∙ ap (λ (x : ℕ). number s x 8) next ∙ number-lead lead s (16 * i + 8) 8 (omega arith))
+
+-- and past its end there is nothing
+pub blockAt-outside : (lead : ℕ) (s : List ℕ) (i : ℕ) → lead ≤ 16 * i → length s ≤ 16 * i - lead → words 0 0 ≡ blockAt (replicate lead 0 ++ s) i
+blockAt-outside lead s i h l =
+    let past : length (replicate lead 0 ++ s) ≤ 16 * i = rw (length-append, length-replicate) (omega arith) in
+    zero-words ∙ sym (blockAt-past (replicate lead 0 ++ s) i past)
 
 -- both words written one behind the other are the block's bytes written: mid is the output after the first, and last after the
 -- second

@@ -5,8 +5,9 @@ use mathlib.Core.Path.{_≡_, sym, ap, ap₂, _∙_}
 use Prim.Native.Nat.{ℕ, _^_, _<_}
 use native.Mathlib.Nat.{mod-eq-of-lt}
 use lib.Pow.{pow-pos}
-use Rattle.field.specs.Elements.{xor, shifted, times}
-use Rattle.field.proofs.Xor.{xor-lt}
+use Rattle.clmul.specs.Xor.{xor}
+use Rattle.field.specs.Elements.{shifted, times}
+use Rattle.clmul.proofs.Xor.{xor-lt}
 use Rattle.field.proofs.Span.{shifted-zero, shifted-xor, shifted-lt, shifted-power, one-lt, span}
 use Rattle.field.proofs.Recursion.{times-mul, mul-lt, mul-zero-l, mul-zero-r, mul-xor-l, mul-xor-r, mul-shifted, mul-one, one-mul}
 

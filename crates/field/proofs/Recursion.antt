@@ -7,9 +7,10 @@ use native.Mathlib.Nat.{mod-lt, mod-one, zero-div}
 use native.Mathlib.Numerals.{one-add}
 use native.Mathlib.Omega.{arith}
 use lib.Pow.{pow-pos, mod-pow-add}
-use Rattle.field.specs.Elements.{xor, only, bit, shifted, Vᵢ, Zᵢ, times}
-use Rattle.field.proofs.Xor.{xor-zero-l, xor-zero-r, xor-odd, xor-shr, xor-lt, xor-add, xor-swap, xors}
-use Rattle.field.proofs.Xor.{only-off, only-zero, only-on, only-map, only-mul, only-lt, only-xor, only-xor-digit, odd-lt}
+use Rattle.clmul.specs.Xor.{xor, only}
+use Rattle.field.specs.Elements.{bit, shifted, Vᵢ, Zᵢ, times}
+use Rattle.clmul.proofs.Xor.{xor-zero-l, xor-zero-r, xor-odd, xor-shr, xor-lt, xor-add, xor-swap, xors}
+use Rattle.clmul.proofs.Xor.{only-off, only-zero, only-on, only-map, only-mul, only-lt, only-xor, only-xor-digit, odd-lt}
 use Rattle.field.proofs.Span.{shifted-zero, shifted-xor, shifted-lt, shifted-power}
 
 -- the n low bits of x, from the left, each with v as often shifted as it stands to the right

@@ -4,10 +4,11 @@
 use mathlib.Core.Path.{_≡_, sym, ap, ap₂, _∙_}
 use Prim.Native.Nat.{ℕ, _^_, _<_}
 use Rattle.field.specs.declared.blocks.Block.{Block}
-use Rattle.field.specs.Elements.{xor, times}
+use Rattle.clmul.specs.Xor.{xor}
+use Rattle.field.specs.Elements.{times}
 use Rattle.field.specs.Blocks.{value, block, Small, zeroBlock, one, _⊕_, _•_}
-use Rattle.field.proofs.Commutative.{swap}
-use Rattle.field.proofs.Xor as x
+use Rattle.clmul.proofs.Commutative.{swap}
+use Rattle.clmul.proofs.Xor as x
 use Rattle.field.proofs.Product as p
 use Rattle.field.proofs.Values.{value-lt, value-block, block-value, small-block, value-zero, value-one}
 

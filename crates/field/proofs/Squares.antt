@@ -8,10 +8,11 @@ use Prim.Native.Nat.{ℕ, zero, suc, _+_, _*_, _/_, _%_, _^_, _<_}
 use native.Mathlib.Omega.{arith}
 use lib.Pow.{pow-pos, pow-lt}
 use lib.Dec.{T, eqb, eqb→eq}
-use Rattle.field.specs.Elements.{xor, only, R, shifted, times}
-use Rattle.field.proofs.Xor.{xor-self, xor-zero-l, xor-half, xor-odd, xor-shr, xor-mod, xor-shl, xor-split, xor-lt, xors}
+use Rattle.clmul.specs.Xor.{xor, only}
+use Rattle.field.specs.Elements.{R, shifted, times}
+use Rattle.clmul.proofs.Xor.{xor-self, xor-zero-l, xor-half, xor-odd, xor-shr, xor-mod, xor-shl, xor-split, xor-lt, xors}
 use Rattle.field.proofs.ComputedTests.{every, every-at}
-use Rattle.field.proofs.Span.{basis}
+use Rattle.clmul.proofs.Basis.{basis}
 use Rattle.field.proofs.Recursion.{mul, times-mul}
 use Rattle.field.proofs.Product.{times-comm, times-xor-l, times-xor-r, times-zero-r, times-lt}
 
@@ -45,7 +46,7 @@ spread-xor (suc k) a b =
     four : (a : ℕ) → a % 2 < 4
     four a = omega arith
 
-folded-xor : (a b : ℕ) → folded (xor a b) ≡ xor (folded a) (folded b)
+pub folded-xor : (a b : ℕ) → folded (xor a b) ≡ xor (folded a) (folded b)
 unfolding folded
 folded-xor a b = simp (xor-shl 7, xor-shl 6, xor-shl 5) (simp xors)
 

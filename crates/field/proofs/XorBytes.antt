@@ -7,9 +7,9 @@ use native.Mathlib.Nat.{le-refl, le-of-suc-le-suc, not-suc-le-zero, suc-inj, mod
 use native.Mathlib.Omega.{arith}
 use lib.Bits.{bitXor}
 use lib.ListN.{length, getD, replicate, length-replicate}
-use Rattle.field.specs.Elements.{xor}
+use Rattle.clmul.specs.Xor.{xor}
 use Rattle.field.specs.Bytes.{number, bytes, xorBytes}
-use Rattle.field.proofs.Xor.{xor-zero-l, xor-zero-r, xor-self, xor-comm, xor-assoc, xor-shr, xor-mod, xor-split}
+use Rattle.clmul.proofs.Xor.{xor-zero-l, xor-zero-r, xor-self, xor-comm, xor-assoc, xor-shr, xor-mod, xor-split}
 use Rattle.field.proofs.Bytes.{length-bytes}
 
 -- at every place, past the end of either list too

@@ -2,7 +2,8 @@
 use mathlib.Core.List.{List}
 use Prim.Native.Nat.{ℕ, _+_, _*_, _/_, _%_, _^_, _<_}
 use Rattle.field.specs.declared.blocks.Block.{Block}
-use Rattle.field.specs.Elements.{xor, times}
+use Rattle.clmul.specs.Xor.{xor}
+use Rattle.field.specs.Elements.{times}
 use Rattle.field.specs.Bytes.{number, bytes}
 
 infixl 65 _⊕_

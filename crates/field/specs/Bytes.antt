@@ -2,7 +2,7 @@
 use mathlib.Core.List.{List, [], _∷_, _++_}
 use Prim.Native.Nat.{ℕ, zero, suc, _+_, _*_, _/_, _%_}
 use lib.ListN.{getD}
-use Rattle.field.specs.Elements.{xor}
+use Rattle.clmul.specs.Xor.{xor}
 
 -- int(X) of the k bytes of s from place `at` on (4.2.2); past the end of s stand zero bytes. A byte is read by its eight bits, so
 -- that the laws of numbers and sums ask no bound of a list's elements.

@@ -1,8 +1,9 @@
 -- What serves contracts alone and stands in no standard: the numbers of the answers that code gives, and what code's functions
 -- return, written whole, so that a contract is one equation.
+use mathlib.Core.Path.{_≡_}
 use mathlib.Core.List.{List}
-use Prim.Native.Nat.{ℕ, _+_}
-use lib.ListN.{length}
+use Prim.Native.Nat.{ℕ, _+_, _<_}
+use lib.ListN.{length, getD}
 use Rattle.field.specs.declared.blocks.Block.{Block}
 use Rattle.field.specs.declared.multiplying.Counted.{Counted}
 use Rattle.field.specs.declared.seeking.Sought.{Sought}
@@ -40,3 +41,8 @@ streamed h s = record { h = h; y = sum h s; n = length s }
 -- a stream that goes on over one chunk more, whose last block is padded with zero bytes
 unfoldable pub absorbed : Stream → List ℕ → Stream
 absorbed t s = record { h = t .h; y = Yᵢ (t .h) (t .y) s (blocks (length s)); n = t .n + length s }
+
+-- of sixteen words the first n are f 0 .. f (n − 1)
+pub record Loaded (f : ℕ → ℕ) (n : ℕ) (t : List ℕ) : Type 0 where
+  pub size : length t ≡ 16
+  pub each : (j : ℕ) → j < n → getD t j 0 ≡ f j

@@ -1,16 +1,7 @@
 -- The product of two blocks, as Algorithm 1 of NIST SP 800-38D (section 6.3) has it.
 -- A block's 128 bits are read as a number below 2 ^ 128, the leftmost bit of weight 2 ^ 127; that bit is the coefficient of x^0.
 use Prim.Native.Nat.{ℕ, zero, suc, _-_, _*_, _/_, _%_, _^_}
-use lib.Bits.{bitXor}
-
--- exclusive or of two blocks (SP 800-38D, 4.2.2). A definition of its own, so that proofs use its laws and not the digits.
-unfoldable pub xor : ℕ → ℕ → ℕ
-xor a b = bitXor a b
-
--- v where the bit is one, and nothing where it is zero (the choice in 6.3, step 3)
-unfoldable pub only : ℕ → ℕ → ℕ
-only zero v = 0
-only (suc b) v = v
+use Rattle.clmul.specs.Xor.{xor, only}
 
 -- bit i of x, counted from the left (6.3, step 1)
 unfoldable pub bit : ℕ → ℕ → ℕ

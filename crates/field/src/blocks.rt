@@ -1,6 +1,7 @@
 // Blocks: 16 bytes as two big-endian words.
 use super::packing::number_at;
 use super::packing::store;
+use super::packing::word_at;
 ghost use mathlib.Core.Path.{_≡_};
 ghost use mathlib.Core.List.{_++_};
 ghost use Prim.Native.Nat.{_+_, _*_, _≤_, _<_, _^_};
@@ -31,13 +32,26 @@ impl Block {
     }
 
     // Block i of lead zero bytes followed by s; past the end stand zero bytes. It serves the layers above.
+    // A block that lies whole in s is read word by word, and one past its end not at all; what is left is read byte by byte.
     // The requires: no place that is read may pass the largest index.
     pub fn load(lead: usize, s: &[u8], i: usize) -> Block
         requires { ⌜ 16 * i + 16 < 2 ^ 64 ⌝ }
         ensures { λ r. ⌜ r ≡ blockAt (replicate lead 0 ++ now (s .entry)) i ⌝ }
     {
-        let hi = number_at(lead, s, 16 * i, 8);
-        let lo = number_at(lead, s, 16 * i + 8, 8);
+        let from = 16 * i;
+        if lead <= from {
+            let at = from - lead;
+            if s.len() <= at {
+                return Block::ZERO;
+            }
+            if 16 <= s.len() - at {
+                let hi = word_at(s, at);
+                let lo = word_at(s, at + 8);
+                return Block { hi, lo };
+            }
+        }
+        let hi = number_at(lead, s, from, 8);
+        let lo = number_at(lead, s, from + 8, 8);
         Block { hi, lo }
     }
 

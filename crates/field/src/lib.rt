@@ -1,5 +1,6 @@
 // GF(2^128) as SP 800-38D has it: blocks, products, powers, sums of bytes and GHASH. This layer
 // knows nothing of the cipher or of files.
+mod batches;
 pub mod blocks;
 pub mod hashing;
 pub mod multiplying;

@@ -1,72 +1,60 @@
-// The product of two blocks as Algorithm 1 of SP 800-38D (section 6.3) has it, bit by bit, and the counted product. All of it is
-// constant time: a block's bit is used as a mask, and no branch and no index depends on what a block holds.
+// The product of two blocks, which SP 800-38D defines by its Algorithm 1 (section 6.3): a carry-less product and one reduction; and the
+// counted product. All of it is constant time: no branch and no index depends on what a block holds.
 use super::blocks::Block;
+use clmul::karatsuba::Wide;
 ghost use mathlib.Core.Path.{_≡_};
-ghost use Prim.Native.Nat.{_+_, _-_, _*_, _^_, _<_, _≤_};
-ghost use Rattle.field.specs.Elements.{xor, only, bit};
-ghost use Rattle.field.specs.Blocks.{value, _•_};
+ghost use Prim.Native.Nat.{_+_, _-_, _*_, _^_, _<_};
+ghost use Rattle.clmul.specs.Clmul.{wide};
+ghost use Rattle.field.specs.Elements.{Vᵢ};
+ghost use Rattle.field.specs.Blocks.{block, _•_};
 ghost use Rattle.field.specs.Contracts.{counted};
 
-// The left word of R, 11100001 followed by 120 zeros; its right word is zero.
-const R_HI: u64 = 0xe100_0000_0000_0000;
-
-// All ones where the bit is one, and all zeros where it is zero. It is a product of numbers because the wrapping difference of
-// std is written with a branch.
-fn mask(bit: u64) -> u64
-    requires { ⌜ bit ≤ 1 ⌝ }
-    ensures { λ r. ⌜ r ≡ (2 ^ 64 - 1) * bit ⌝ }
+// w times two, where that fits. In the carry-less product of two blocks the coefficient of x^0 is bit 254, one below where the reduction has it.
+fn doubled(w: Wide) -> Wide
+    ensures { λ r. ⌜ (wide w < 2 ^ 255 → wide r ≡ wide w * 2) ⌝ }
 {
-    u64::MAX * bit
-}
-
-// Bit i of a block, counted from the left. The branch is on i, which is the loop's counter and no secret.
-fn bit_of(a: Block, i: usize) -> u64
-    requires { ⌜ i < 128 ⌝ }
-    ensures { λ r. ⌜ r ≡ bit (value a) i ⌝ }
-{
-    if i < 64 {
-        (a.hi >> (63 - i)) % 2
-    } else {
-        (a.lo >> (127 - i)) % 2
+    Wide {
+        w3: (w.w3 << 1) | (w.w2 >> 63),
+        w2: (w.w2 << 1) | (w.w1 >> 63),
+        w1: (w.w1 << 1) | (w.w0 >> 63),
+        w0: w.w0 << 1,
     }
 }
 
-// V after one step: shifted right by one, and R added where the bit shifted out was a one.
-fn shifted(v: Block) -> Block
-    ensures { λ r. ⌜ value r ≡ Rattle.field.specs.Elements.shifted (value v) ⌝ }
+// v after 64 steps of V: the 64 low bits go out on the right, and each that is a one brings R in.
+fn folded(v: Wide) -> Wide
+    ensures { λ r. ⌜ wide r ≡ Vᵢ (wide v) 64 ⌝ }
 {
-    Block {
-        hi: (mask(v.lo % 2) & R_HI) ^ (v.hi >> 1),
-        lo: (v.hi << 63) | (v.lo >> 1),
+    let out = v.w0;
+    Wide {
+        w3: 0,
+        w2: v.w3,
+        w1: v.w2 ^ (out ^ (out >> 1) ^ ((out >> 2) ^ (out >> 7))),
+        w0: v.w1 ^ ((out << 63) ^ ((out << 62) ^ (out << 57))),
     }
 }
 
-// z with v added where the bit is one.
-fn added_where(bit: u64, v: Block, z: Block) -> Block
-    requires { ⌜ bit ≤ 1 ⌝ }
-    ensures { λ r. ⌜ value r ≡ xor (only bit (value v)) (value z) ⌝ }
+// The block of a carry-less product, or of a sum of such products, which have at most 255 bits: one reduction. It serves the crate.
+pub fn reduced(w: Wide) -> Block
+    ensures { λ r. ⌜ (wide w < 2 ^ 255 → r ≡ block (Vᵢ (wide w) 127)) ⌝ }
 {
-    let m = mask(bit);
-    Block {
-        hi: (m & v.hi) ^ z.hi,
-        lo: (m & v.lo) ^ z.lo,
-    }
+    let r = folded(folded(doubled(w)));
+    Block { hi: r.w1, lo: r.w0 }
 }
 
-// The product of two blocks: after i turns z is Z_i and v is V_i of Algorithm 1. It is private: the one product that is in reach
-// of another file is the counted one.
+// The product of two blocks: their carry-less product, reduced. It is private: other files take the counted product.
 fn product(a: Block, b: Block) -> Block
     ensures { λ r. ⌜ r ≡ a • b ⌝ }
 {
-    let mut z = Block::ZERO;
-    let mut v = b;
-    let mut i = 0;
-    while i < 128 {
-        z = added_where(bit_of(a, i), v, z);
-        v = shifted(v);
-        i += 1;
-    }
-    z
+    reduced(clmul::karatsuba::product(a.hi, a.lo, b.hi, b.lo))
+}
+
+// The square of a block, which takes less time than a product. It is counted nowhere: it serves the crate where nothing is counted, in the
+// companion and in the powers for whole files.
+pub fn squared(a: Block) -> Block
+    ensures { λ r. ⌜ r ≡ a • a ⌝ }
+{
+    reduced(clmul::karatsuba::square(a.hi, a.lo))
 }
 
 // A number of counted products. Its field is private, so that outside this file a count can only be begun at none, be raised by the

@@ -20,6 +20,20 @@ fn byte_at(lead: usize, s: &[u8], v: usize) -> u8
     s[i]
 }
 
+// The number of the eight bytes from place at on, with no test for each byte. It serves the crate. The requires: they lie in s.
+pub fn word_at(s: &[u8], at: usize) -> u64
+    requires { ⌜ at + 8 ≤ length (now s) ⌝ }
+    ensures { λ r. ⌜ r ≡ number (now (s .entry)) at 8 ⌝ }
+{
+    let mut n: u64 = 0;
+    let mut k: usize = 0;
+    while k < 8 {
+        n = n * 256 + s[at + k] as u64;
+        k += 1;
+    }
+    n
+}
+
 // The number of the size bytes from place at of lead zero bytes followed by s. It serves the layers above, which read words so.
 // The requires: eight bytes fill the word, and no place that is read may pass the largest index.
 pub fn number_at(lead: usize, s: &[u8], at: usize, size: usize) -> u64

@@ -3,6 +3,7 @@ use super::blocks::Block;
 use super::multiplying::Count;
 use super::multiplying::Counted;
 use super::multiplying::counted_product;
+use super::multiplying::squared;
 ghost use mathlib.Core.Path.{_≡_};
 ghost use Prim.Native.Nat.{_+_, _-_, _^_, _<_, _≤_};
 ghost use Rattle.field.specs.Blocks.{_•_};
@@ -88,8 +89,7 @@ pub fn companion(h: Block) -> Block
     let mut y = Block::ONE;
     let mut j: usize = 0;
     while j < 127 {
-        let square = counted_product(x, x, Count::none());
-        x = square.value;
+        x = squared(x);
         let next = counted_product(y, x, Count::none());
         y = next.value;
         j += 1;

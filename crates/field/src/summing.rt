@@ -1,4 +1,5 @@
 // Sums over a byte list's blocks by Horner's rule, where the bytes lie.
+use super::batches::batches;
 use super::blocks::Block;
 use super::multiplying::Count;
 use super::multiplying::Counted;
@@ -54,8 +55,11 @@ pub fn fold(
     }
 }
 
-// Horner's rule from start over all the blocks of s. It serves the layers above.
-pub fn run(h: Block, start: Block, s: &[u8]) -> Block
+// At how many bytes a run goes sixteen blocks at a time: below, the table of powers costs more than it saves.
+const BATCHED: usize = 512;
+
+// Horner's rule from start over all the blocks of s, block by block.
+fn run_singly(h: Block, start: Block, s: &[u8]) -> Block
     ensures { λ r. ⌜ r ≡ Yᵢ h start (now (s .entry)) (Sums.blocks (length (now (s .entry)))) ⌝ }
 {
     let q = blocks(s.len() as u64) as usize;
@@ -63,9 +67,32 @@ pub fn run(h: Block, start: Block, s: &[u8]) -> Block
     y.value
 }
 
-// The sum S of s. It serves the layers above.
+// The same, sixteen blocks at a time as far as they go.
+fn run_long(h: Block, start: Block, s: &[u8]) -> Block
+    ensures { λ r. ⌜ r ≡ Yᵢ h start (now (s .entry)) (Sums.blocks (length (now (s .entry)))) ⌝ }
+{
+    let whole = s.len() / 256;
+    let y = batches(h, start, s, whole);
+    run_singly(h, y, &s[256 * whole..])
+}
+
+// Horner's rule from start over all the blocks of s, in the one way or the other. It serves the layers above.
+pub fn run(h: Block, start: Block, s: &[u8]) -> Block
+    ensures { λ r. ⌜ r ≡ Yᵢ h start (now (s .entry)) (Sums.blocks (length (now (s .entry)))) ⌝ }
+{
+    if s.len() < BATCHED {
+        return run_singly(h, start, s);
+    }
+    run_long(h, start, s)
+}
+
+// The sum S of s. It serves the layers above. The choice of `run` stands here once more because the compiler then leaves `run_long` a function of
+// its own: were it part of `run`, a short run too would take the stack of its table.
 pub fn sum(h: Block, s: &[u8]) -> Block
     ensures { λ r. ⌜ r ≡ Sums.sum h (now (s .entry)) ⌝ }
 {
-    run(h, Block::ZERO, s)
+    if s.len() < BATCHED {
+        return run_singly(h, Block::ZERO, s);
+    }
+    run_long(h, Block::ZERO, s)
 }

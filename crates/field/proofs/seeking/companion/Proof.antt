@@ -19,17 +19,14 @@ loop-holds : tie.Need-loop-holds Inv-loop μ-loop
 unfolding one block
 loop-holds c = doubling-start _ (record { hi = omega arith; lo = omega arith })
 
+squared-requires : tie.Need-squared-requires Inv-loop μ-loop
+squared-requires c κs = tt
+
 none-requires : tie.Need-none-requires Inv-loop μ-loop
 none-requires c κs = tt
 
 counted-product-requires : tie.Need-counted-product-requires Inv-loop μ-loop
 counted-product-requires c κs = omega (arith, c .none .ensures)
-
-none-requires-2 : tie.Need-none-requires-2 Inv-loop μ-loop
-none-requires-2 c κs = tt
-
-counted-product-requires-2 : tie.Need-counted-product-requires-2 Inv-loop μ-loop
-counted-product-requires-2 c κs = omega (arith, c .none2 .ensures)
 
 add-j : tie.Need-add-j Inv-loop μ-loop
 add-j c = omega arith
@@ -40,9 +37,9 @@ loop-less c = omega arith
 loop-again : tie.Need-loop-again Inv-loop μ-loop
 loop-again c =
     let next = c .before in
-    let square = next .before .before .before in
-    doubling-next (square .before .before .before .loop .inv) (omega arith)
-    (ap (λ (r : Counted). r .value) (square .counted-product .ensures)) (ap (λ (r : Counted). r .value) (next .counted-product2 .ensures))
+    let square = next .before .before in
+    doubling-next (square .before .before .loop .inv) (omega arith) (square .squared .ensures)
+    (ap (λ (r : Counted). r .value) (next .counted-product .ensures))
 
 returns : tie.Need-returns Inv-loop μ-loop
 returns c = doubling-done (c .before .loop .inv) (omega arith)
@@ -54,10 +51,9 @@ companion-spec =
     Inv-loop
     μ-loop
     loop-holds
+    squared-requires
     none-requires
     counted-product-requires
-    none-requires-2
-    counted-product-requires-2
     add-j
     loop-less
     loop-again

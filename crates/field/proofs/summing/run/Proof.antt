@@ -1,29 +1,19 @@
--- `field::summing::run` meets its contract. It is a fold with nothing in front and nothing added (`Folds`).
-use mathlib.Core.Path.{ap}
+-- `field::summing::run` meets its contract. Both ways give the same.
 use borrow.Author.Needs.{needs}
-use native.Mathlib.Omega.{arith}
-use Rattle.field.specs.declared.multiplying.Counted.{Counted}
-use Rattle.field.specs.Sums.{blocks}
-use Rattle.field.proofs.Folds.{folded}
 use Rattle.field.proofs.summing.run.Statement.{statement}
 use Rattle.field.proofs.summing.run.Tie as tie
 
-blocks-requires : tie.Need-blocks-requires
-blocks-requires c κs = search needs
-
-slice-aggregate-fold : tie.Need-slice-aggregate-fold
-slice-aggregate-fold c = search needs
-
-none-requires : tie.Need-none-requires
-none-requires c κs = search needs
-
-fold-requires : tie.Need-fold-requires
-unfolding blocks
-fold-requires c κs = omega (arith, c .none .ensures)
+run-singly-requires : tie.Need-run-singly-requires
+run-singly-requires c κs = search needs
 
 returns : tie.Need-returns
-returns c = folded _ _ _ _ (c .before .before .before .before .blocks2 .ensures) (ap (λ (r : Counted). r .value) (c .before .fold .ensures))
+returns c = c .run-singly .ensures
+
+run-long-requires : tie.Need-run-long-requires
+run-long-requires c κs = search needs
+
+returns-2 : tie.Need-returns-2
+returns-2 c = c .run-long .ensures
 
 pub run-spec : {M : Type 1} → statement M
-run-spec =
-    tie.close (tie.spec blocks-requires slice-aggregate-fold none-requires fold-requires returns)
+run-spec = tie.close (tie.spec run-singly-requires returns run-long-requires returns-2)

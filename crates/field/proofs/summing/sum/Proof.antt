@@ -6,12 +6,19 @@ use Rattle.field.proofs.Horner.{horner}
 use Rattle.field.proofs.summing.sum.Statement.{statement}
 use Rattle.field.proofs.summing.sum.Tie as tie
 
-run-requires : tie.Need-run-requires
-run-requires c κs = search needs
+run-singly-requires : tie.Need-run-singly-requires
+run-singly-requires c κs = search needs
 
 returns : tie.Need-returns
 unfolding zeroBlock block
-returns c = c .run .ensures ∙ horner _ _
+returns c = c .run-singly .ensures ∙ horner _ _
+
+run-long-requires : tie.Need-run-long-requires
+run-long-requires c κs = search needs
+
+returns-2 : tie.Need-returns-2
+unfolding zeroBlock block
+returns-2 c = c .run-long .ensures ∙ horner _ _
 
 pub sum-spec : {M : Type 1} → statement M
-sum-spec = tie.close (tie.spec run-requires returns)
+sum-spec = tie.close (tie.spec run-singly-requires returns run-long-requires returns-2)
