@@ -57,27 +57,31 @@
  * by one test of all their bits. The cipher has no table: it computes its
  * substitution by gates on bits. Time does depend on lengths, on places (p, n),
  * on the arm number, on seal numbers, on a slip's bytes outside its tag and on
- * the heads of a journal's records; these are taken for public. This is
- * observed of the compiled library (tests/ct), and is not part of what is
- * proved.
+ * the heads of a journal's records; these are taken for public. Blocks are
+ * multiplied by multiplications of integers, which are taken to last the same
+ * whatever they multiply, as they do on x86-64. This is observed of the compiled
+ * library (tests/ct), but for how long a multiplication lasts, and is not part
+ * of what is proved.
  *
  * STACK
  *
  * Bytes of stack that a call takes, with its return address and the arguments
- * that go by the stack. They are the same at every length above 0, but for the
- * two of GCM, which take less at some, and at 0 no more. This is measured
- * (tests/stack), and is not part of what is proved:
+ * that go by the stack. Of two figures the second is for inputs that are all
+ * shorter than 512 bytes; a longer one is hashed by a table of powers of H,
+ * which stands on the stack. A figure is the same at every length above 0, but
+ * for those of calls with two, which take less at some, and at 0 no more. This
+ * is measured (tests/stack), and is not part of what is proved:
  *
- *      armfile_encrypt      1000      armfile_prepend      704
- *      armfile_multiply      160      armfile_drop_front   704
- *      armfile_ghash         480      armfile_cut_tail     704
- *      armfile_gmac         1464      armfile_replay       960
- *      armfile_gcm_encrypt  3368      armfile_seal        1432
- *      armfile_gcm_decrypt  3352      armfile_check       1288
- *      armfile_start        1144      armfile_length         8
- *      armfile_read         1160      armfile_arm            8
- *      armfile_change        704      armfile_last           8
- *      armfile_append        704
+ *      armfile_encrypt      1000            armfile_prepend     1080
+ *      armfile_multiply      184            armfile_drop_front  1080
+ *      armfile_ghash       12712   648      armfile_cut_tail    1080
+ *      armfile_gmac        13384  1560      armfile_replay      1336
+ *      armfile_gcm_encrypt 13272  3368      armfile_seal        1496
+ *      armfile_gcm_decrypt 13256  3352      armfile_check       1352
+ *      armfile_start        1192            armfile_length         8
+ *      armfile_read        12840  1240      armfile_arm            8
+ *      armfile_change       1080            armfile_last           8
+ *      armfile_append       1080
  *
  * WHAT TO WIPE
  *
@@ -90,8 +94,8 @@
  *
  *  - the stack below itself, by calling, from the function that made the calls,
  *    one that is not inlined and overwrites at least as many bytes as the
- *    largest figure above (examples/c/seal.c overwrites 4096; nothing was found
- *    after it);
+ *    largest figure above (examples/c/seal.c overwrites 16384; nothing was
+ *    found after it);
  *  - every state that is no longer used, copies too: it holds the key;
  *  - its own copies of the key, and of texts that nobody else is to read.
  *
@@ -105,23 +109,25 @@
  * one run; other runs there took from nine tenths to nearly twice as long. Take
  * them as orders of magnitude, and `make cost` for your own machine:
  *
- *      armfile_start                                    57 000
- *      armfile_read of 1 KiB, of 1 MiB        73 000, 16 000 000
- *      armfile_append of 16 bytes, of 4 KiB          800, 64 000
- *      armfile_change of 16 bytes, first of 1 GiB       12 000
- *      armfile_cut_tail of 16 bytes                        810
- *      armfile_seal, armfile_check                1 400, 1 400
- *      armfile_gmac of 1 KiB                            18 000
- *      armfile_gcm_encrypt of 1 KiB, of 1 MiB 23 000, 22 000 000
- *      armfile_gcm_decrypt of 1 KiB                     23 000
- *      armfile_encrypt, armfile_multiply            1 100, 270
+ *      armfile_start                                     9 000
+ *      armfile_read of 1 KiB, of 1 MiB        11 000, 1 400 000
+ *      armfile_append of 16 bytes, of 4 KiB         260, 15 000
+ *      armfile_change of 16 bytes, first of 1 GiB        2 900
+ *      armfile_cut_tail of 16 bytes                        250
+ *      armfile_seal, armfile_check                1 200, 1 200
+ *      armfile_gmac of 1 KiB                             4 500
+ *      armfile_gcm_encrypt of 1 KiB, of 1 MiB  9 800, 7 000 000
+ *      armfile_gcm_decrypt of 1 KiB                      9 800
+ *      armfile_encrypt, armfile_multiply             1 100, 90
  *
- * Most of it is products of blocks, about 250 each in a long run; an edit
- * returns how many it took. What armfile_start and armfile_read take besides
- * the file is H's companion I, some 250 products. A replay takes a little less
- * than its edits when they are made singly. Of GCM the cipher takes about a
- * quarter, some 90 a block (what an encryption of 1 MiB takes more than a read
- * of it), and of up to two blocks behind the last sixteen some 600 each.
+ * Most of what an edit takes is its products of blocks, some 57 each; it
+ * returns how many it took. A block of an input of 512 bytes or more takes some
+ * 21. What armfile_start and armfile_read take besides the file is H's companion
+ * I, 127 squares and 127 products. A replay takes a little less than its edits
+ * when they are made singly. Of GCM the cipher takes four fifths, some 86 a
+ * block (what an encryption of 1 MiB takes more than a read of it), and of up to
+ * two blocks behind the last sixteen some 600 each. docs/BENCHMARKS.md has more,
+ * beside other libraries.
  *
  * THE STATE
  *

@@ -2,7 +2,8 @@
  * through every instruction and reports a conditional jump or an address that depends on one. So a run with no report is one in which
  * neither the path taken nor the places read and written depended on a secret. A conditional move is not reported, whatever the words of
  * memcheck's message say (ct move shows it): it chooses between two values that are both at hand, takes the same time for either, and what
- * it chose is followed on as undefined.
+ * it chose is followed on as undefined. How long an instruction takes is not seen here: integer multiplications, by which
+ * blocks are multiplied, are taken to last the same whatever they multiply.
  *
  * Secret: keys, H, I, S, blocks, the bytes of files, in a journal too, and GCM's texts, associated data and ciphertexts. Public: lengths,
  * places, arm and seal numbers, nonces, slips, the heads of a journal's records, whose kind, p and l decide what is done, and every answer,
@@ -33,17 +34,20 @@
 #define SECRET_STATE 64 /* key, H, I and S; n, arm and last used number follow */
 #define SLIP ARMFILE_SLIP_BYTES
 #define SLIP_HEAD 20 /* version, length, arm and number; the tag follows */
-#define MOST 100
+#define MOST 100 /* the longest edit */
+#define WHOLE 1000 /* the longest file, nonce or text, and the most of A, C and associated data */
 #define HEAD 12 /* a record's: kind, p and l */
 #define RECORDS 6
-#define TEXT 560 /* the longest text of GCM: two batches of sixteen blocks, and 48 bytes */
 
 static const size_t lengths[] = {0, 1, 15, 16, 17, 32, 33, 64, MOST};
 #define LENGTHS (sizeof lengths / sizeof lengths[0])
-static const size_t nonces[] = {1, 12, 16, 17};
+/* What is no edit is hashed block by block below 512 bytes, and from there on by batches of 256, with what is left block by block. */
+static const size_t wholes[] = {0, 1, 15, 16, 17, 32, 33, 64, 100, 255, 256, 257, 511, 512, 513, 527, 528, 767, 768, WHOLE};
+#define WHOLES (sizeof wholes / sizeof wholes[0])
+static const size_t nonces[] = {1, 12, 16, 17, 511, 512, 513, 527, 528, 767, 768, WHOLE};
 #define NONCES (sizeof nonces / sizeof nonces[0])
 /* Up to 32 bytes, of a text or behind whole batches, are made block by block, and more by sixteen blocks at once. */
-static const size_t texts[] = {0, 1, 16, 17, 32, 33, 48, 240, 255, 256, 257, 288, 289, 300, TEXT};
+static const size_t texts[] = {0, 1, 16, 17, 32, 33, 48, 240, 255, 256, 257, 288, 289, 300, 511, 512, 513, 527, 528, 560, 767, 768, WHOLE};
 #define TEXTS (sizeof texts / sizeof texts[0])
 
 static unsigned calls, comparisons, jumps;
@@ -59,7 +63,7 @@ static void reveal(void *bytes, size_t n) { (void)VALGRIND_MAKE_MEM_DEFINED(byte
 
 /* Whether every bit of the bytes is defined (which 0) or undefined (which 0xff). */
 static int all_bits(const void *bytes, size_t n, unsigned char which) {
-    unsigned char bits[TEXT];
+    unsigned char bits[WHOLE];
     if (n > sizeof bits || VALGRIND_GET_VBITS(bytes, bits, n) != 1)
         fail("memcheck does not say which bits are defined");
     for (size_t i = 0; i < n; i++)
@@ -138,18 +142,18 @@ static void on_blocks(block_call *call) {
 }
 
 static void on_ghash(void) {
-    for (size_t i = 0; i < LENGTHS; i++)
-        for (size_t j = 0; j < LENGTHS; j++) {
-            uint8_t h[16], a[MOST], c[MOST], plain[16], out[16];
+    for (size_t i = 0; i < WHOLES; i++)
+        for (size_t j = 0; j < WHOLES; j++) {
+            uint8_t h[16], a[WHOLE], c[WHOLE], plain[16], out[16];
             fill(h, 16);
-            fill(a, MOST);
-            fill(c, MOST);
-            answered(armfile_ghash(h, 16, a, lengths[i], c, lengths[j], plain, 16), 0);
+            fill(a, WHOLE);
+            fill(c, WHOLE);
+            answered(armfile_ghash(h, 16, a, wholes[i], c, wholes[j], plain, 16), 0);
             hide(h, 16);
-            hide(a, MOST);
-            hide(c, MOST);
-            answered(armfile_ghash(h, 16, a, lengths[i], c, lengths[j], out, 16), 0);
-            if (lengths[i] + lengths[j] > 0)
+            hide(a, WHOLE);
+            hide(c, WHOLE);
+            answered(armfile_ghash(h, 16, a, wholes[i], c, wholes[j], out, 16), 0);
+            if (wholes[i] + wholes[j] > 0)
                 must_be_secret(out, 16, "no secret in a hash");
             reveal(out, 16);
             must_be_same(out, plain, 16, "another hash");
@@ -264,16 +268,16 @@ static void on_replay(void) {
 
 /* The nonce is public. */
 static void on_gmac(void) {
-    for (size_t i = 0; i < LENGTHS; i++)
+    for (size_t i = 0; i < WHOLES; i++)
         for (size_t j = 0; j < NONCES; j++) {
-            uint8_t key[16], nonce[17], a[MOST], plain[16], out[16];
+            uint8_t key[16], nonce[WHOLE], a[WHOLE], plain[16], out[16];
             fill(key, 16);
-            fill(nonce, 17);
-            fill(a, MOST);
-            answered(armfile_gmac(key, 16, nonce, nonces[j], a, lengths[i], plain, 16), 0);
+            fill(nonce, WHOLE);
+            fill(a, WHOLE);
+            answered(armfile_gmac(key, 16, nonce, nonces[j], a, wholes[i], plain, 16), 0);
             hide(key, 16);
-            hide(a, MOST);
-            answered(armfile_gmac(key, 16, nonce, nonces[j], a, lengths[i], out, 16), 0);
+            hide(a, WHOLE);
+            answered(armfile_gmac(key, 16, nonce, nonces[j], a, wholes[i], out, 16), 0);
             must_be_secret(out, 16, "no secret in a tag");
             reveal(out, 16);
             must_be_same(out, plain, 16, "another tag");
@@ -282,17 +286,17 @@ static void on_gmac(void) {
 
 /* What GCM is given, and what it writes; the lengths of nonce, aad and text, which is as long as out. */
 struct message {
-    uint8_t key[16], nonce[17], aad[MOST], text[TEXT], out[TEXT], tag[16];
+    uint8_t key[16], nonce[WHOLE], aad[WHOLE], text[WHOLE], out[WHOLE], tag[16];
     size_t nonce_len, aad_len, text_len;
 };
 
 static struct message any_message(size_t nonce_len, size_t aad_len, size_t text_len) {
     struct message m = {.nonce_len = nonce_len, .aad_len = aad_len, .text_len = text_len};
     fill(m.key, 16);
-    fill(m.nonce, sizeof m.nonce);
-    fill(m.aad, MOST);
-    fill(m.text, TEXT);
-    fill(m.out, TEXT);
+    fill(m.nonce, WHOLE);
+    fill(m.aad, WHOLE);
+    fill(m.text, WHOLE);
+    fill(m.out, WHOLE);
     fill(m.tag, 16);
     return m;
 }
@@ -300,8 +304,8 @@ static struct message any_message(size_t nonce_len, size_t aad_len, size_t text_
 /* The nonce is public, and so is a tag that is given. */
 static void hide_message(struct message *m) {
     hide(m->key, 16);
-    hide(m->aad, MOST);
-    hide(m->text, TEXT);
+    hide(m->aad, WHOLE);
+    hide(m->text, WHOLE);
 }
 
 /* GCM by a message's own lengths, but for the key's, the output's and the tag's. */
@@ -310,7 +314,7 @@ static void hide_message(struct message *m) {
         tag_len)
 
 /* A length that is not the text's, and that its output has. */
-#define ANOTHER(text_len) (((text_len) + 1) % TEXT)
+#define ANOTHER(text_len) (((text_len) + 1) % WHOLE)
 
 static void one_encryption(size_t nonce_len, size_t aad_len, size_t text_len) {
     struct message m = any_message(nonce_len, aad_len, text_len), plain = m;
@@ -319,39 +323,42 @@ static void one_encryption(size_t nonce_len, size_t aad_len, size_t text_len) {
     answered(GCM(armfile_gcm_encrypt, &m, 15, text_len, 16), 1);
     answered(GCM(armfile_gcm_encrypt, &m, 16, ANOTHER(text_len), 16), 7);
     answered(GCM(armfile_gcm_encrypt, &m, 16, text_len, 15), 7);
-    must_be_public(m.out, TEXT, "a refused call has written");
+    must_be_public(m.out, WHOLE, "a refused call has written");
     must_be_public(m.tag, 16, "a refused call has written");
     answered(GCM(armfile_gcm_encrypt, &m, 16, text_len, 16), 0);
     must_be_secret(m.out, text_len, "no secret in a ciphertext");
     must_be_secret(m.tag, 16, "no secret in a tag");
-    reveal(m.out, TEXT);
-    must_be_same(m.out, plain.out, TEXT, "another ciphertext");
+    reveal(m.out, WHOLE);
+    must_be_same(m.out, plain.out, WHOLE, "another ciphertext");
     reveal(m.tag, 16);
     must_be_same(m.tag, plain.tag, 16, "another tag");
 }
 
+/* How much associated data goes with a text and a nonce: with each text, short or long, lengths below 512 and above. */
+static size_t aad_for(size_t i, size_t j) { return wholes[(i + 7 * j) % WHOLES]; }
+
 static void on_gcm_encrypt(void) {
     for (size_t i = 0; i < TEXTS; i++)
         for (size_t j = 0; j < NONCES; j++)
-            one_encryption(nonces[j], lengths[(i + j) % LENGTHS], texts[i]);
+            one_encryption(nonces[j], aad_for(i, j), texts[i]);
 }
 
 static void on_start_and_read(void) {
-    for (size_t i = 0; i < LENGTHS; i++) {
-        uint8_t key[16], file[MOST], plain[STATE], plain_start[STATE], state[STATE];
+    for (size_t i = 0; i < WHOLES; i++) {
+        uint8_t key[16], file[WHOLE], plain[STATE], plain_start[STATE], state[STATE];
         fill(key, 16);
-        fill(file, MOST);
-        answered(armfile_start(key, 16, 7, 41, lengths[i], plain_start), 0);
-        answered(armfile_read(key, 16, 7, 41, file, lengths[i], plain), 0);
+        fill(file, WHOLE);
+        answered(armfile_start(key, 16, 7, 41, wholes[i], plain_start), 0);
+        answered(armfile_read(key, 16, 7, 41, file, wholes[i], plain), 0);
         hide(key, 16);
-        hide(file, MOST);
-        answered(armfile_start(key, 16, 7, 41, lengths[i], state), 0);
+        hide(file, WHOLE);
+        answered(armfile_start(key, 16, 7, 41, wholes[i], state), 0);
         must_be_secret(state, 48, "no secret in the key, H or I");
         must_be_public(state + SECRET_STATE, STATE - SECRET_STATE, "a length or number depends on a secret");
         reveal(state, STATE);
         must_be_same(state, plain_start, STATE, "another state");
-        answered(armfile_read(key, 16, 7, 41, file, lengths[i], state), 0);
-        must_be_secret(state, lengths[i] == 0 ? 48 : SECRET_STATE, "no secret in the key, H, I or S");
+        answered(armfile_read(key, 16, 7, 41, file, wholes[i], state), 0);
+        must_be_secret(state, wholes[i] == 0 ? 48 : SECRET_STATE, "no secret in the key, H, I or S");
         must_be_public(state + SECRET_STATE, STATE - SECRET_STATE, "a length or number depends on a secret");
         reveal(state, STATE);
         must_be_same(state, plain, STATE, "another state");
@@ -451,21 +458,21 @@ static void one_decryption(const struct message *sent, const uint8_t *text, int 
     answered(answer, bit < 0 ? 0 : 14);
     if (bit < 0) {
         must_be_secret(m.out, m.text_len, "no secret in a text");
-        reveal(m.out, TEXT);
+        reveal(m.out, WHOLE);
         must_be_same(m.out, text, m.text_len, "another text");
     } else {
-        must_be_public(m.out, TEXT, "a refused call has written");
-        must_be_same(m.out, sent->out, TEXT, "a refused call has written");
+        must_be_public(m.out, WHOLE, "a refused call has written");
+        must_be_same(m.out, sent->out, WHOLE, "a refused call has written");
     }
 }
 
-/* Every bit of a tag turned for three messages, of no text, of less than a batch and of more, and two bits for the others. */
+/* Every bit of a tag turned for four messages, of no text, of less than a batch, just below 512 bytes and above, and two bits for the others. */
 static void on_gcm_decrypt(void) {
     for (size_t i = 0; i < TEXTS; i++)
         for (size_t j = 0; j < NONCES; j++) {
-            struct message plain = any_message(nonces[j], lengths[(i + j) % LENGTHS], texts[i]), sent = plain;
+            struct message plain = any_message(nonces[j], aad_for(i, j), texts[i]), sent = plain;
             answered(GCM(armfile_gcm_encrypt, &plain, 16, texts[i], 16), 0);
-            memcpy(sent.text, plain.out, TEXT);
+            memcpy(sent.text, plain.out, WHOLE);
             memcpy(sent.tag, plain.tag, 16);
             for (int bit = -1; bit < 128; bit += j == 1 && i % 7 == 0 ? 1 : 43)
                 one_decryption(&sent, plain.text, bit);

@@ -4,8 +4,10 @@
  * byte that is no longer paint: the arguments that go by the stack, the return address and every frame of the library, and nothing of the
  * caller's own. Only bytes that are written count; what the lowest frame reserves at its end and never writes does not.
  *
- * It is an error where a call is refused, where it does not take the same at every length above 0, and where it takes more at length 0. GCM
- * alone may take the one or the other of two figures, by the way in which it makes the last bytes of a text; the larger is told. */
+ * It is an error where a call is refused, where it does not take the same at every length above 0, and where it takes more at length 0. Calls
+ * that hash a whole input may take another figure below 512 bytes than from there on, where they go by batches, and another where nothing is left
+ * behind the batches; and GCM by the way in which it makes the last bytes of a text. The largest is told, and where a call takes less at every
+ * length below 512, behind it the largest of those. */
 #define _XOPEN_SOURCE 700
 #include <pthread.h>
 #include <stdio.h>
@@ -16,6 +18,7 @@
 #define ROOM 1024
 #define MOST 4095
 #define WHOLE(n) (((n) + 15) / 16 * 16)
+#define NONCE(n) ((n) == 0 ? 12 : (n)) /* a nonce is not empty, and one of 12 bytes is not hashed */
 #define HEAD 12 /* a record's head: kind and place in 8 bytes, l in 4 */
 
 static volatile uint8_t *stack;
@@ -41,9 +44,9 @@ static uint64_t count, offset;
 CALL(encrypt, armfile_encrypt(key, 16, file + n, 16, out, 16))
 CALL(multiply, armfile_multiply(key, 16, file + n, 16, out, 16))
 CALL(ghash, armfile_ghash(key, 16, file, n, file, n, out, 16))
-CALL(gmac, armfile_gmac(key, 16, file, 12 + n, file, n, out, 16))
-CALL(gcm_encrypt, armfile_gcm_encrypt(key, 16, file, 12 + n, file, n, file, n, sent, n, tag, 16))
-CALL(gcm_decrypt, armfile_gcm_decrypt(key, 16, file, 12 + n, file, n, sent, n, text, n, tag, 16))
+CALL(gmac, armfile_gmac(key, 16, file, NONCE(n), file, n, out, 16))
+CALL(gcm_encrypt, armfile_gcm_encrypt(key, 16, file, NONCE(n), file, n, file, n, sent, n, tag, 16))
+CALL(gcm_decrypt, armfile_gcm_decrypt(key, 16, file, NONCE(n), file, n, sent, n, text, n, tag, 16))
 CALL(start, armfile_start(key, 16, 7, 0, n, state))
 CALL(read_file, armfile_read(key, 16, 7, 0, file, n, state))
 CALL(length, armfile_length(state) != (uint64_t)n << 40)
@@ -58,20 +61,33 @@ CALL(replay, armfile_replay(state, journal, journal_len, &count, &offset))
 CALL(seal, armfile_seal(state, slip, sizeof slip))
 CALL(check, armfile_check(state, slip, sizeof slip, &verdict))
 
+/* By what the figure of a call may differ: by nothing, by how an input is hashed, or by that and by how a text's last bytes are made. */
+enum ways { NOTHING, HASHING, TEXTS };
+
 static const struct {
 	const char *name;
 	uint64_t (*call)(size_t);
+	enum ways by;
 } calls[] = {
-	{ "encrypt", encrypt }, { "multiply", multiply }, { "ghash", ghash }, { "gmac", gmac }, { "gcm_encrypt", gcm_encrypt },
-	{ "gcm_decrypt", gcm_decrypt }, { "start", start }, { "read", read_file }, { "length", length }, { "arm", arm }, { "last", last },
-	{ "change", change }, { "append", append }, { "prepend", prepend }, { "drop_front", drop_front }, { "cut_tail", cut_tail },
-	{ "replay", replay }, { "seal", seal }, { "check", check },
+	{ "encrypt", encrypt, NOTHING }, { "multiply", multiply, NOTHING }, { "ghash", ghash, HASHING }, { "gmac", gmac, HASHING },
+	{ "gcm_encrypt", gcm_encrypt, TEXTS }, { "gcm_decrypt", gcm_decrypt, TEXTS }, { "start", start, NOTHING },
+	{ "read", read_file, HASHING }, { "length", length, NOTHING }, { "arm", arm, NOTHING }, { "last", last, NOTHING },
+	{ "change", change, NOTHING }, { "append", append, NOTHING }, { "prepend", prepend, NOTHING }, { "drop_front", drop_front, NOTHING },
+	{ "cut_tail", cut_tail, NOTHING }, { "replay", replay, NOTHING }, { "seal", seal, NOTHING }, { "check", check, NOTHING },
 };
 
-/* Lengths of two kinds: up to 32 bytes, in all or behind batches of 256, which GCM makes block by block, and more, which it makes by sixteen
- * blocks at once. */
-#define KIND 6
-static const size_t few[KIND] = { 1, 17, 32, 257, 288, 3872 }, many[KIND] = { 33, 100, 256, 289, 1000, MOST };
+/* Lengths of five kinds. Below 512 bytes an input is hashed block by block, and from there on by batches of 256 and what is left block by block.
+ * GCM makes up to 32 bytes of a text, in all or behind batches of 256, block by block (few), and more by sixteen blocks at once (many). At whole
+ * batches nothing is left for either. */
+enum kind { SHORT_FEW, SHORT_MANY, LONG_FEW, LONG_MANY, WHOLE_BATCHES, KINDS };
+#define LENGTHS 6
+static const size_t lengths[KINDS][LENGTHS] = {
+	[SHORT_FEW] = { 1, 17, 32, 257, 272, 288 },
+	[SHORT_MANY] = { 33, 100, 255, 256, 289, 511 },
+	[LONG_FEW] = { 513, 528, 544, 769, 800, 3872 },
+	[LONG_MANY] = { 545, 560, 767, 801, 1000, MOST },
+	[WHOLE_BATCHES] = { 512, 768, 1024, 1280, 2048, 3840 },
+};
 
 static void stop(const char *name, const char *what)
 {
@@ -108,7 +124,7 @@ static size_t on_paint(const char *name, uint64_t (*volatile call)(size_t), size
 
 	if (armfile_start(key, 16, 7, 0, (uint64_t)n << 40, state) != 0 || armfile_seal(state, slip, sizeof slip) != 0)
 		stop(name, "has no state and slip to be called on");
-	if (armfile_gcm_encrypt(key, 16, file, 12 + n, file, n, file, n, sent, n, tag, 16) != 0)
+	if (armfile_gcm_encrypt(key, 16, file, NONCE(n), file, n, file, n, sent, n, tag, 16) != 0)
 		stop(name, "has no text that was sent");
 	write_journal(n);
 	for (i = 0; low + i < end; i++)
@@ -132,27 +148,41 @@ static size_t taken(size_t c, size_t n)
 }
 
 /* What a call takes at all lengths of a kind. */
-static size_t taken_by_all(size_t c, const size_t lengths[KIND])
+static size_t taken_by_all(size_t c, enum kind kind)
 {
-	size_t figure = taken(c, lengths[0]);
+	size_t figure = taken(c, lengths[kind][0]);
 
-	for (size_t i = 1; i < KIND; i++)
-		if (taken(c, lengths[i]) != figure)
+	for (size_t i = 1; i < LENGTHS; i++)
+		if (taken(c, lengths[kind][i]) != figure)
 			stop(calls[c].name, "takes more stack at one length than at another");
 	return figure;
+}
+
+static size_t larger(size_t a, size_t b)
+{
+	return a > b ? a : b;
 }
 
 static void *run(void *unused)
 {
 	for (size_t c = 0; c < sizeof calls / sizeof calls[0]; c++) {
-		int by_kind = calls[c].call == gcm_encrypt || calls[c].call == gcm_decrypt;
-		size_t at_few = taken_by_all(c, few), at_many = taken_by_all(c, many), figure = at_few > at_many ? at_few : at_many;
+		size_t at[KINDS], at_0 = taken(c, 0), at_short, most;
 
-		if (at_few != at_many && !by_kind)
+		for (enum kind kind = 0; kind < KINDS; kind++) {
+			at[kind] = taken_by_all(c, kind);
+			if (calls[c].by == NOTHING && at[kind] != at[0])
+				stop(calls[c].name, "takes more stack at one length than at another");
+		}
+		if (calls[c].by == HASHING && (at[SHORT_FEW] != at[SHORT_MANY] || at[LONG_FEW] != at[LONG_MANY]))
 			stop(calls[c].name, "takes more stack at one length than at another");
-		if (taken(c, 0) > figure)
+		at_short = larger(at[SHORT_FEW], at[SHORT_MANY]);
+		most = larger(larger(at[LONG_FEW], at[LONG_MANY]), larger(at[WHOLE_BATCHES], at_short));
+		if (at_0 > at_short)
 			stop(calls[c].name, "takes more stack at length 0 than at others");
-		printf("%-11s %zu\n", calls[c].name, figure);
+		printf("%-11s %5zu", calls[c].name, most);
+		if (at_short < most)
+			printf(" %5zu", at_short);
+		putchar('\n');
 	}
 	return unused;
 }

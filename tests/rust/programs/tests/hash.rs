@@ -158,6 +158,19 @@ fn sizes_around_buffers() {
     }
 }
 
+/// Files around 512 bytes, from where on the sum goes by batches of 256, and
+/// around the ends of batches; alone, and behind a whole buffer of the program.
+#[test]
+fn sizes_around_batches() {
+    const BUFFER: usize = 65536;
+    for end in [256, 512, 768, 1024] {
+        compare_on_sizes(end as u64, 16 + end - 17..=16 + end + 17);
+        let near = [end - 16, end - 1, end, end + 1, end + 16];
+        compare_on_sizes(end as u64, near.map(|n| 16 + BUFFER + n));
+    }
+    compare_on_sizes(11, [1, 17, 512].map(|n| 16 + 2 * BUFFER + n));
+}
+
 /// Bytes that are special in text: line ends, zero, end of file, the highest.
 #[test]
 fn bytes_special_in_text() {
@@ -248,10 +261,10 @@ fn a_file_of_more_than_2_24_bytes() {
 
 /// More bytes than 32 bits count, all zero but for the first and the last
 /// block, so that the hash is made of two powers of H. The program takes its
-/// time, some minutes: `tests/mutants/run` runs this, and by hand
+/// time, some seconds: `tests/mutants/run` runs this, and by hand
 /// `cargo test -p programs --test hash -- --ignored`.
 #[test]
-#[ignore = "takes minutes"]
+#[ignore = "takes seconds"]
 fn a_file_of_more_than_2_32_bytes() {
     const HOLE: u64 = 1 << 32;
     let mut random = Random::for_test(9);

@@ -2,10 +2,10 @@
 
 use compare::{Call, Case, Lent};
 
-use crate::choose::{block, output, plain, LENGTHS, PLAIN, SIZES};
+use crate::choose::{block, one_of, output, plain, LENGTHS, PLAIN, SIZES};
 
 /// x^i times x^j for all j, i the case's index. The product is linear in each
-/// factor, so these are all that its steps can do.
+/// factor, so these are all that steps bit by bit can do.
 pub fn single_bits(case: &mut Case) {
     for j in 0..128 {
         let call = Call::Multiply {
@@ -13,6 +13,17 @@ pub fn single_bits(case: &mut Case) {
             b: plain(j),
         };
         with_output(case, &call, 16);
+    }
+}
+
+/// The first bits of a block ones, as many as the case's index and one more,
+/// times the bits of a block from each on ones. What integer multiplications
+/// carry depends on how many ones meet.
+pub fn runs_of_ones(case: &mut Case) {
+    let first = u128::MAX << (127 - case.index());
+    for j in 0..128 {
+        let [a, b] = [first, u128::MAX >> j].map(|ones| ones.to_be_bytes().to_vec());
+        with_output(case, &Call::Multiply { a, b }, 16);
     }
 }
 
@@ -28,8 +39,8 @@ pub fn plain_blocks(case: &mut Case) {
     }
 }
 
-/// Makes a block call with an output of this size.
-fn with_output(case: &mut Case, call: &Call, size: usize) {
+/// Makes a block call, or a hash, with an output of this size.
+pub fn with_output(case: &mut Case, call: &Call, size: usize) {
     let mut lent = Lent::new();
     lent.out = output(&mut case.random, size);
     case.call(call, &mut lent);
@@ -54,11 +65,15 @@ pub fn edge_lengths(case: &mut Case) {
 }
 
 pub fn random_lengths(case: &mut Case) {
-    let [length, other] = [(); 2].map(|()| case.random.below(100) as usize);
+    let [length, other] = [(); 2].map(|()| {
+        let most = one_of(&mut case.random, &[100, 100, 600, 3_000]);
+        case.random.below(most) as usize
+    });
     hashes(case, length, other);
 }
 
-fn hashes(case: &mut Case, a_length: usize, other: usize) {
+/// GHASH of A and C of these lengths, and GMAC of A under such a nonce.
+pub fn hashes(case: &mut Case, a_length: usize, other: usize) {
     let key = block(&mut case.random);
     let a = case.random.bytes(a_length);
     let second = case.random.bytes(other);

@@ -97,14 +97,15 @@ pub fn every_nonce(case: &mut Case) {
 
 pub fn random_lengths(case: &mut Case) {
     let most = one_of(&mut case.random, &[40, 40, 300, 300, 1_000, 10_300]);
-    let [nonce, aad, text] = [50, 100, most].map(|most| case.random.below(most) as usize);
+    let more = one_of(&mut case.random, &[50, 100, 100, 1_100]);
+    let [nonce, aad, text] = [50, more, most].map(|most| case.random.below(most) as usize);
     let message = some_message(case, 1 + nonce, aad, text);
     carried(case, &message);
 }
 
 /// GMAC is GCM with no text.
 pub fn no_text(case: &mut Case) {
-    let [nonce, aad] = [50, 300].map(|most| case.random.below(most) as usize);
+    let [nonce, aad] = [50, 1_100].map(|most| case.random.below(most) as usize);
     let message = some_message(case, 1 + nonce, aad, 0);
     let (_, tag) = sent(case, &message);
     let mut lent = Lent::new();

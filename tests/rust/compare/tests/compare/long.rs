@@ -44,14 +44,14 @@ pub fn inputs(case: &mut Case) {
     sealed_and_checked(case, lent);
 }
 
-/// A file of some MiB, read and hashed.
+/// Some MiB, read and hashed: ends inside a block, and at a batch's end.
 pub fn file(case: &mut Case) {
     let lent = read(case, (3 << 20) + 7);
     sealed_and_checked(case, lent);
     let ghash = Call::Ghash {
         h: case.random.bytes(16),
         a: case.random.bytes((2 << 20) + 1),
-        c: case.random.bytes((1 << 20) + 3),
+        c: case.random.bytes(1 << 20),
     };
     hash(case, &ghash);
 }
@@ -87,7 +87,7 @@ fn hash(case: &mut Case, call: &Call) {
 }
 
 /// The state of a random file of this length.
-fn read(case: &mut Case, length: usize) -> Lent {
+pub fn read(case: &mut Case, length: usize) -> Lent {
     let call = Call::Read {
         key: case.random.bytes(16),
         arm: 3,
@@ -99,7 +99,7 @@ fn read(case: &mut Case, length: usize) -> Lent {
     lent
 }
 
-fn sealed_and_checked(case: &mut Case, mut lent: Lent) {
+pub fn sealed_and_checked(case: &mut Case, mut lent: Lent) {
     lent.out = output(&mut case.random, SLIP_BYTES);
     assert_eq!(case.call(&Call::Seal, &mut lent), 0);
     let slip = lent.out.clone();

@@ -12,6 +12,7 @@ mod lists;
 mod long;
 mod slips;
 mod states;
+mod wholes;
 
 use compare::case::{run, Part};
 
@@ -62,6 +63,10 @@ const PARTS: &[Part] = &[
     ("encryptions of single bits", 130, blocks::plain_blocks),
     ("gcm, around whole batches", 32, gcm::around_batches),
     ("gcm, counters of single bits", 130, gcm::plain_counters),
+    ("products of runs of ones", 128, blocks::runs_of_ones),
+    ("whole inputs of every length", 1_100, wholes::every_length),
+    ("batches of single bits", 130, wholes::plain_batches),
+    ("batches of ones", 5, wholes::ones),
 ];
 
 fn main() {
