@@ -1,5 +1,5 @@
 # Thin names over rt and the gate.
-.PHONY: run lib example cost stack test
+.PHONY: run lib example cost stack bench test
 
 # Build what there is to run, and run it on small examples.
 run:
@@ -12,7 +12,7 @@ run:
 	head -n 11 crates/cipher_vectors/stdin | target/bin/cipher_vectors
 
 # The static library that C and Rust programs link, and its header, in target/lib. It needs no other library.
-LAYERS = crates/refusals crates/planes crates/cipher crates/field crates/gcm crates/file crates/journal crates/capi
+LAYERS = crates/refusals crates/planes crates/clmul crates/cipher crates/field crates/gcm crates/file crates/journal crates/capi
 lib: target/lib/libarmfile.a target/lib/armfile.h
 target/lib/libarmfile.a: crates.txt $(shell find $(LAYERS) -name '*.rt' -o -name '*.antt')
 	rt staticlib capi
@@ -39,6 +39,10 @@ stack: lib
 	mkdir -p target/example
 	$(CC) -std=c11 -Wall -Wextra -Werror -O2 -Itarget/lib tests/stack/stack.c target/lib/libarmfile.a -lpthread -o target/example/stack
 	target/example/stack
+
+# The library's speed beside other libraries'; it installs Debian's packages of them where they are missing.
+bench:
+	bench/run
 
 # The gate.
 test:
