@@ -1,4 +1,4 @@
--- What serves the contracts: planes of bits, Karatsuba's rule, and the halves that products are made of.
+-- What serves contracts alone and stands in no standard: planes of bits, Karatsuba's rule, and the mixtures that products of halves are made of.
 use Prim.Native.Nat.{ℕ, zero, suc, _+_, _*_, _/_, _%_, _^_}
 use Rattle.clmul.specs.Xor.{xor}
 use Rattle.clmul.specs.declared.halves.Mixtures.{Mixtures}

@@ -1,4 +1,4 @@
--- What serves the contracts of sums of sixteen products: numbers of several words, and how sixteen of them stand in arrays.
+-- What serves contracts alone and stands in no standard: numbers of several words, and how sixteen of them stand in arrays.
 use mathlib.Core.Path.{_≡_}
 use mathlib.Core.List.{List, [], _∷_}
 use Prim.Native.Nat.{ℕ, zero, suc, _+_, _*_, _/_, _%_, _^_, _<_}
