@@ -17,7 +17,8 @@
  *  - counter: counter mode alone, the schedule made before. The library has no such call, and the report works it out: encrypt less refusal.
  *  - encrypt, decrypt: GCM of n bytes without additional data, with a nonce of 12. Keys as in gmac.
  *  - refusal: armfile_gcm_decrypt where the tag does not fit, which does all that an encryption does, but for the cipher's blocks of the text.
- *  - change 1, change 4096: armfile_change of that many bytes at place 0 of a file of n zero bytes. start, read, seal, check: the calls.
+ *  - change 1, change 4096: armfile_change of that many bytes at place 0 of a file of n zero bytes. start (of n zero bytes too), read, seal,
+ *    check: the calls.
  *
  * BearSSL's counter mode and GCM work in place.
  *
@@ -99,7 +100,7 @@ static void change(size_t bytes)
 }
 static void own_change_1(void) { change(1); }
 static void own_change_4096(void) { change(4096); }
-static void own_start(void) { refused |= armfile_start(key, 16, 7, 0, given->n, state); }
+static void own_start(void) { refused |= armfile_start(key, 16, 7, 0, given->n, 0, state, &products); }
 static void own_read(void) { refused |= armfile_read(key, 16, 7, 0, text, given->n, state); }
 static void own_seal(void) { refused |= armfile_seal(sealed, slip, sizeof slip); }
 static void own_check(void)
@@ -508,7 +509,7 @@ static void give(struct given *g, size_t n)
 	g->n = n;
 	if (n <= LONGEST)
 		refused |= armfile_gcm_encrypt(key, 16, nonce, 12, zero, 0, text, n, sent, n, g->fits, 16);
-	refused |= armfile_start(key, 16, 7, 0, n, g->state);
+	refused |= armfile_start(key, 16, 7, 0, n, 0, g->state, &products);
 }
 
 /* What a call leaves in out and in tag; where it works in place, out holds its text before. */
@@ -646,7 +647,7 @@ int main(int argc, char **argv)
 		if (*n >= 4096)
 			check_change(own_change_4096, 4096, *n);
 	}
-	refused |= armfile_start(key, 16, 7, 0, 1 << 10, sealed);
+	refused |= armfile_start(key, 16, 7, 0, 1 << 10, 0, sealed, &products);
 	list();
 	for (int round = 0; round < ROUNDS; round++)
 		for (struct job *j = jobs; j < jobs + count; j++)

@@ -3,12 +3,13 @@
  *
  * A controller keeps no motion file, only a state of 84 bytes: key, hash key H
  * and its companion I, running sum (GHASH without its length block), length,
- * arm number, last used seal number. Five edits move that state without
- * reading the file, one by one or as a journal of them. A seal writes a slip of
- * 36 bytes whose tag is AES-128 GMAC of the whole file; a check says whether a
- * slip is genuine. A file that is to travel unread is encrypted by AES-128 GCM,
- * which needs no state. FIPS 197 decides for AES, NIST SP 800-38D for the
- * field, GHASH, GMAC and GCM.
+ * arm number, last used seal number. It begins with a file that is at hand, or
+ * with a blank one, which is a fill byte and a length. Five edits move that
+ * state without reading the file, one by one or as a journal of them. A seal
+ * writes a slip of 36 bytes whose tag is AES-128 GMAC of the whole file; a
+ * check says whether a slip is genuine. A file that is to travel unread is
+ * encrypted by AES-128 GCM, which needs no state. FIPS 197 decides for AES,
+ * NIST SP 800-38D for the field, GHASH, GMAC and GCM.
  *
  * The library is for x86-64 and needs no other library.
  *
@@ -56,12 +57,12 @@
  * tag fits; both are public once the call has answered. Two tags are compared
  * by one test of all their bits. The cipher has no table: it computes its
  * substitution by gates on bits. Time does depend on lengths, on places (p, n),
- * on the arm number, on seal numbers, on a slip's bytes outside its tag and on
- * the heads of a journal's records; these are taken for public. Blocks are
- * multiplied by multiplications of integers, which are taken to last the same
- * whatever they multiply, as they do on x86-64. This is observed of the compiled
- * library (tests/ct), but for how long a multiplication lasts, and is not part
- * of what is proved.
+ * on a blank file's fill byte, on the arm number, on seal numbers, on a slip's
+ * bytes outside its tag and on the heads of a journal's records; these are
+ * taken for public. Blocks are multiplied by multiplications of integers, which
+ * are taken to last the same whatever they multiply, as they do on x86-64. This
+ * is observed of the compiled library (tests/ct), but for how long a
+ * multiplication lasts, and is not part of what is proved.
  *
  * STACK
  *
@@ -69,8 +70,9 @@
  * that go by the stack. Of two figures the second is for inputs that are all
  * shorter than 512 bytes; a longer one is hashed by a table of powers of H,
  * which stands on the stack. A figure is the same at every length above 0, but
- * for those of calls with two, which take less at some, and at 0 no more. This
- * is measured (tests/stack), and is not part of what is proved:
+ * for those of calls with two, which take less at some, and at 0 no more; that
+ * of armfile_start is the same with fill 0 as with another. This is measured
+ * (tests/stack), and is not part of what is proved:
  *
  *      armfile_encrypt      1000            armfile_prepend     1080
  *      armfile_multiply      184            armfile_drop_front  1080
@@ -78,8 +80,8 @@
  *      armfile_gmac        13384  1560      armfile_replay      1336
  *      armfile_gcm_encrypt 13272  3368      armfile_seal        1496
  *      armfile_gcm_decrypt 13256  3352      armfile_check       1352
- *      armfile_start        1192            armfile_length         8
- *      armfile_read        12840  1240      armfile_arm            8
+ *      armfile_start        1368            armfile_length         8
+ *      armfile_read        12872  1272      armfile_arm            8
  *      armfile_change       1080            armfile_last           8
  *      armfile_append       1080
  *
@@ -109,24 +111,25 @@
  * one run; other runs there took from nine tenths to nearly twice as long. Take
  * them as orders of magnitude, and `make cost` for your own machine:
  *
- *      armfile_start                                     9 000
+ *      armfile_start of 0 bytes, of 1 GiB of FF  9 000, 14 000
  *      armfile_read of 1 KiB, of 1 MiB        11 000, 1 400 000
  *      armfile_append of 16 bytes, of 4 KiB         260, 15 000
  *      armfile_change of 16 bytes, first of 1 GiB        2 900
- *      armfile_cut_tail of 16 bytes                        250
+ *      armfile_cut_tail of 16 bytes                        260
  *      armfile_seal, armfile_check                1 200, 1 200
  *      armfile_gmac of 1 KiB                             4 500
- *      armfile_gcm_encrypt of 1 KiB, of 1 MiB  9 800, 7 000 000
+ *      armfile_gcm_encrypt of 1 KiB, of 1 MiB  9 800, 7 100 000
  *      armfile_gcm_decrypt of 1 KiB                      9 800
  *      armfile_encrypt, armfile_multiply             1 100, 90
  *
  * Most of what an edit takes is its products of blocks, some 57 each; it
- * returns how many it took. A block of an input of 512 bytes or more takes some
- * 21. What armfile_start and armfile_read take besides the file is H's companion
- * I, 127 squares and 127 products. A replay takes a little less than its edits
- * when they are made singly. Of GCM the cipher takes four fifths, some 86 a
- * block (what an encryption of 1 MiB takes more than a read of it), and of up to
- * two blocks behind the last sixteen some 600 each. docs/BENCHMARKS.md has more,
+ * returns how many it took. armfile_start returns how many a blank file took,
+ * some 52 each. A block of an input of 512 bytes or more takes some 21. What
+ * armfile_start and armfile_read take besides the file is H's companion I, 127
+ * squares and 127 products. A replay takes a little less than its edits when
+ * they are made singly. Of GCM the cipher takes four fifths, some 86 a block
+ * (what an encryption of 1 MiB takes more than a read of it), and of up to two
+ * blocks behind the last sixteen some 600 each. docs/BENCHMARKS.md has more,
  * beside other libraries.
  *
  * THE STATE
@@ -161,19 +164,22 @@
  * A FILE IN PIECES
  *
  * A file that is never at hand as a whole is taken in from its front: by
- * armfile_start() with n = 0, and an armfile_append() for each piece, of any
- * length. The state is then the one that armfile_read() makes of the whole.
- * Beside one armfile_read(), a piece costs at most two products for each binary
- * digit of its number of blocks, and one more where it begins inside a block:
- * pieces of some KiB, of whole blocks, cost next to nothing.
+ * armfile_start() with n = 0 and any fill byte, and an armfile_append() for
+ * each piece, of any length. The state is then the one that armfile_read()
+ * makes of the whole. Beside one armfile_read(), a piece costs at most two
+ * products for each binary digit of its number of blocks, and one more where it
+ * begins inside a block: pieces of some KiB, of whole blocks, cost next to
+ * nothing.
  *
  * TRUE BYTES
  *
- * The library cannot see the file. Where armfile_change is given old bytes, or
- * armfile_drop_front or armfile_cut_tail removed bytes, that the file does not
- * have at that place, the call is accepted and the state stands for no file
- * from then on: seals of it are not GMAC of the file. The same goes for the
- * records of a journal, each of which meets the file that those before it left.
+ * The library cannot see the file. Where armfile_start is told of fill bytes,
+ * armfile_change of old bytes, or armfile_drop_front or armfile_cut_tail of
+ * removed bytes, that the file does not have at that place, the call is
+ * accepted and the state stands for no file from then on: seals of it are not
+ * GMAC of the file. The same goes for the records of a journal, each of which
+ * meets the file that those before it left. The first change of blank bytes has
+ * fill bytes for its old ones.
  */
 #ifndef ARMFILE_H
 #define ARMFILE_H
@@ -445,10 +451,22 @@ uint64_t armfile_gcm_decrypt(const uint8_t *key, size_t key_len,
 /* Making a state.                                                      */
 
 /**
- * \brief A state of n zero bytes.
+ * \brief A state of a blank file: n copies of one byte.
  *
- * n = 0 is the empty file. Refused with 1 where `key_len` is not 16, then with
- * 2 where n passes 2^61 - 1; the lent state then stays as it was.
+ * So a file begins on an erased card: the fill byte is what its bytes then
+ * read, 0xff on many cards. n = 0 is the empty file, whatever the fill byte. No
+ * byte is read; the state is the one that armfile_read() makes of n such bytes.
+ * A partial last block counts as padded with zeros, as that of any file does.
+ *
+ * The count is the number of field products that the running sum took; those of
+ * H's companion I are not counted. For n = 0 and for fill 0 the sum is zero and
+ * the count 0. Otherwise it follows from m, the number of 16-byte blocks,
+ * rounded up: with m - 1 in binary, two for each digit after the highest, two
+ * more for each one among those, and three. So it is 3 for 1 to 32 bytes, 5 for
+ * 40, 103 for 1 GiB, and at most 227, for 2^61 - 1.
+ *
+ * Refused with 1 where `key_len` is not 16, then with 2 where n passes
+ * 2^61 - 1; state and count then stay as they were.
  *
  * \param key      the key, 16 bytes; it is copied into the state.
  * \param key_len  its length; anything but 16 is refused.
@@ -458,11 +476,16 @@ uint64_t armfile_gcm_decrypt(const uint8_t *key, size_t key_len,
  *                 seals on this arm carried. A number that is used twice
  *                 breaks GMAC. 2^64 - 1 is taken; a seal is then refused.
  * \param n        the file's length in bytes, at most 2^61 - 1.
+ * \param fill     the byte of which the file is n copies, 0 to 255; see TRUE
+ *                 BYTES. It is taken for public, as n is (TIME).
  * \param state    receives the state, ARMFILE_STATE_BYTES bytes.
+ * \param count    receives the number of products, at most 227; its value may
+ *                 be ignored.
  * \return 0, 1 or 2.
  */
 uint64_t armfile_start(const uint8_t *key, size_t key_len,
-	uint32_t arm, uint64_t last, uint64_t n, uint8_t state[ARMFILE_STATE_BYTES]);
+	uint32_t arm, uint64_t last, uint64_t n, uint8_t fill,
+	uint8_t state[ARMFILE_STATE_BYTES], uint64_t *count);
 
 /**
  * \brief A state of a file that is at hand.

@@ -35,7 +35,8 @@ static int compare(const void *a, const void *b)
 		uint64_t took[TIMES];                                                          \
 		for (size_t i = 0; i < (times); i++) {                                         \
 			uint8_t state[ARMFILE_STATE_BYTES];                                    \
-			if (armfile_start(key, sizeof key, 7, 0, (n), state) != ARMFILE_OK     \
+			if (armfile_start(key, sizeof key, 7, 0, (n), 0, state, &count)        \
+				!= ARMFILE_OK                                                  \
 			    || armfile_seal(state, slip, sizeof slip) != ARMFILE_OK)           \
 				return 1;                                                      \
 			uint64_t from = now();                                                 \
@@ -53,7 +54,8 @@ int main(void)
 		journal[i] = 2 << 5; /* the kind: an append */
 		journal[i + 11] = 16;
 	}
-	COST("start", TIMES, 0, armfile_start(key, sizeof key, 7, 0, 0, state));
+	COST("start of 0 bytes", TIMES, 0, armfile_start(key, sizeof key, 7, 0, 0, 0xff, state, &count));
+	COST("start of 1 GiB of FF", TIMES, 0, armfile_start(key, sizeof key, 7, 0, KIB << 20, 0xff, state, &count));
 	COST("read of 1 KiB", TIMES, 0, armfile_read(key, sizeof key, 7, 0, file, KIB, state));
 	COST("read of 1 MiB", 9, 0, armfile_read(key, sizeof key, 7, 0, file, 1024 * KIB, state));
 	COST("append of 16 bytes", TIMES, 0, armfile_append(state, file, 16, &count));

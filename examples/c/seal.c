@@ -1,9 +1,10 @@
-/* A file's life with the library: taken in by pieces, edited, sealed, put away, taken out again and checked; and sent unread. */
+/* A file's life with the library: begun on a blank card, edited, sealed, put away, taken out again and checked; and sent unread. */
 #include <stdio.h>
 #include <string.h>
 #include "armfile.h"
 
 #define ARM 7
+#define ERASED 0xff /* what a byte of a blank card reads */
 #define TEXT(t) (t), sizeof(t) - 1 /* a text's bytes and their number */
 
 static const uint8_t key[ARMFILE_BLOCK_BYTES] = { 1, 2, 3, 4, 5, 6, 7, 8, 9, 10, 11, 12, 13, 14, 15, 16 };
@@ -40,13 +41,15 @@ static int refused(const char *what, uint64_t number)
 	return number != ARMFILE_OK;
 }
 
-/* From nothing to `left`. What a change, a drop or a cut names does stand in the file at that place. */
+/* From a blank card to `left`. What a change, a drop or a cut names does stand in the file at that place: blank bytes, at first. */
 static int edit(uint8_t *state)
 {
+	uint8_t blank[sizeof line - 1];
 	uint64_t count;
 
-	if (refused("start", armfile_start(key, sizeof key, ARM, 0, 0, state))
-	    || refused("append", armfile_append(state, TEXT(line), &count))
+	memset(blank, ERASED, sizeof blank);
+	if (refused("start", armfile_start(key, sizeof key, ARM, 0, sizeof blank, ERASED, state, &count))
+	    || refused("change", armfile_change(state, 0, blank, sizeof blank, TEXT(line), &count))
 	    || refused("append", armfile_append(state, TEXT(line_2), &count)))
 		return 1;
 	/* Whole blocks alone are prepended: without its line end the head is none, and with it it is. */

@@ -6,9 +6,9 @@
  * blocks are multiplied, are taken to last the same whatever they multiply.
  *
  * Secret: keys, H, I, S, blocks, the bytes of files, in a journal too, and GCM's texts, associated data and ciphertexts. Public: lengths,
- * places, arm and seal numbers, nonces, slips, the heads of a journal's records, whose kind, p and l decide what is done, and every answer,
- * count, offset and verdict. Answers, counts and offsets must come out defined by themselves, but for a decryption's. A tag is published by
- * the call that makes it, and is declared public after that call, not before.
+ * places, a blank file's fill byte, arm and seal numbers, nonces, slips, the heads of a journal's records, whose kind, p and l decide what is
+ * done, and every answer, count, offset and verdict. Answers, counts and offsets must come out defined by themselves, but for a decryption's.
+ * A tag is published by the call that makes it, and is declared public after that call, not before.
  *
  * The verdict is public and made inside check, so check may jump on it, and on nothing less: each check that comes to compare tags makes
  * at most one report, the jump, and its verdict then comes out defined, settled by that jump; or it makes no report, and its verdict
@@ -343,27 +343,55 @@ static void on_gcm_encrypt(void) {
             one_encryption(nonces[j], aad_for(i, j), texts[i]);
 }
 
-static void on_start_and_read(void) {
+/* What a start or a read leaves: key, H and I are secret, S where there is something to sum, and nothing else; all is as on plain data. */
+static void must_be_begun(uint8_t *state, const uint8_t *plain, int summed) {
+    size_t secret = summed ? SECRET_STATE : 48;
+    must_be_secret(state, secret, "no secret in the key, H, I or S");
+    must_be_public(state + secret, STATE - secret, "the sum of nothing, a length or a number depends on a secret");
+    reveal(state, STATE);
+    must_be_same(state, plain, STATE, "another state");
+}
+
+static void one_start(uint64_t n, uint8_t blank) {
+    uint8_t key[16], plain[STATE], state[STATE];
+    uint64_t count, plain_count;
+    fill(key, 16);
+    answered(armfile_start(key, 16, 7, 41, n, blank, plain, &plain_count), 0);
+    hide(key, 16);
+    answered(armfile_start(key, 16, 7, 41, n, blank, state, &count), 0);
+    must_be_public(&count, sizeof count, "a count depends on a secret");
+    if (count != plain_count)
+        fail("another count");
+    must_be_begun(state, plain, n > 0 && blank > 0);
+    answered(armfile_start(key, 15, 7, 41, n, blank, state, &count), 1);
+    answered(armfile_start(key, 16, 7, 41, ARMFILE_MAX_BYTES + 1 + n, blank, state, &count), 2);
+    must_be_same(state, plain, STATE, "a refused call has written");
+    must_be_same(&count, &plain_count, sizeof count, "a refused call has written");
+}
+
+/* Blank files of zeros, of other bytes and of FF, with no block, with few and with the most. The digits of m - 1 say which products are made:
+ * ones alone, one and zeros, and some of both. */
+static void on_start(void) {
+    const uint64_t files[] = {UINT64_C(1) << 30, (UINT64_C(1) << 36) + 17, (UINT64_C(1) << 60) + 1, ARMFILE_MAX_BYTES - 15, ARMFILE_MAX_BYTES};
+    const uint8_t blanks[] = {0, 0x01, 0x80, 0xff};
+    for (size_t j = 0; j < sizeof blanks; j++) {
+        for (size_t i = 0; i < WHOLES; i++)
+            one_start(wholes[i], blanks[j]);
+        for (size_t i = 0; i < sizeof files / sizeof files[0]; i++)
+            one_start(files[i], blanks[j]);
+    }
+}
+
+static void on_read(void) {
     for (size_t i = 0; i < WHOLES; i++) {
-        uint8_t key[16], file[WHOLE], plain[STATE], plain_start[STATE], state[STATE];
+        uint8_t key[16], file[WHOLE], plain[STATE], state[STATE];
         fill(key, 16);
         fill(file, WHOLE);
-        answered(armfile_start(key, 16, 7, 41, wholes[i], plain_start), 0);
         answered(armfile_read(key, 16, 7, 41, file, wholes[i], plain), 0);
         hide(key, 16);
         hide(file, WHOLE);
-        answered(armfile_start(key, 16, 7, 41, wholes[i], state), 0);
-        must_be_secret(state, 48, "no secret in the key, H or I");
-        must_be_public(state + SECRET_STATE, STATE - SECRET_STATE, "a length or number depends on a secret");
-        reveal(state, STATE);
-        must_be_same(state, plain_start, STATE, "another state");
         answered(armfile_read(key, 16, 7, 41, file, wholes[i], state), 0);
-        must_be_secret(state, wholes[i] == 0 ? 48 : SECRET_STATE, "no secret in the key, H, I or S");
-        must_be_public(state + SECRET_STATE, STATE - SECRET_STATE, "a length or number depends on a secret");
-        reveal(state, STATE);
-        must_be_same(state, plain, STATE, "another state");
-        answered(armfile_start(key, 15, 7, 41, 0, state), 1);
-        answered(armfile_start(key, 16, 7, 41, ARMFILE_MAX_BYTES + 1, state), 2);
+        must_be_begun(state, plain, wholes[i] > 0);
     }
 }
 
@@ -525,7 +553,8 @@ int main(int argc, char **argv) {
         on_blocks(armfile_encrypt);
         on_gmac();
         on_gcm_encrypt();
-        on_start_and_read();
+        on_start();
+        on_read();
         on_seal();
     } else if (strcmp(part, "check") == 0) {
         on_check();

@@ -20,6 +20,9 @@
 #define WHOLE(n) (((n) + 15) / 16 * 16)
 #define NONCE(n) ((n) == 0 ? 12 : (n)) /* a nonce is not empty, and one of 12 bytes is not hashed */
 #define HEAD 12 /* a record's head: kind and place in 8 bytes, l in 4 */
+/* A blank file needs no memory: from 512 bytes on it is longer by so many times 2^40. At some lengths it is of zeros, which are not summed. */
+#define BLANK(n) ((n) < 512 ? (n) : (uint64_t)(n) << 40 | (n))
+#define FILL(n) ((n) % 256 == 255 ? 0 : 0xff)
 
 static volatile uint8_t *stack;
 static uintptr_t caller;
@@ -47,7 +50,7 @@ CALL(ghash, armfile_ghash(key, 16, file, n, file, n, out, 16))
 CALL(gmac, armfile_gmac(key, 16, file, NONCE(n), file, n, out, 16))
 CALL(gcm_encrypt, armfile_gcm_encrypt(key, 16, file, NONCE(n), file, n, file, n, sent, n, tag, 16))
 CALL(gcm_decrypt, armfile_gcm_decrypt(key, 16, file, NONCE(n), file, n, sent, n, text, n, tag, 16))
-CALL(start, armfile_start(key, 16, 7, 0, n, state))
+CALL(start, armfile_start(key, 16, 7, 0, BLANK(n), FILL(n), state, &count))
 CALL(read_file, armfile_read(key, 16, 7, 0, file, n, state))
 CALL(length, armfile_length(state) != (uint64_t)n << 40)
 CALL(arm, armfile_arm(state) != 7)
@@ -122,7 +125,7 @@ static size_t on_paint(const char *name, uint64_t (*volatile call)(size_t), size
 	uintptr_t low = (uintptr_t)stack, end = (uintptr_t)&low - ROOM / 2;
 	size_t i;
 
-	if (armfile_start(key, 16, 7, 0, (uint64_t)n << 40, state) != 0 || armfile_seal(state, slip, sizeof slip) != 0)
+	if (armfile_start(key, 16, 7, 0, (uint64_t)n << 40, 0xff, state, &count) != 0 || armfile_seal(state, slip, sizeof slip) != 0)
 		stop(name, "has no state and slip to be called on");
 	if (armfile_gcm_encrypt(key, 16, file, NONCE(n), file, n, file, n, sent, n, tag, 16) != 0)
 		stop(name, "has no text that was sent");

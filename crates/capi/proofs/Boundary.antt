@@ -30,7 +30,7 @@ use Rattle.journal.specs.Singly.{Task, call, replay, Editor, worked, taskCalls,
 use Rattle.journal.proofs.OpeningLaws.{replayed-whole}
 use Rattle.journal.proofs.Lists.{editorOf, run-append, holds-run, task-same}
 use Rattle.capi.specs.Bytes.{stateBytes, packedState, stateFrom}
-use Rattle.capi.specs.Calls.{EditCall, kept, editCall, keptAtStart, startCall, readCall, stamped, sealCall, judged, checkCall, written, replayCall}
+use Rattle.capi.specs.Calls.{EditCall, kept, editCall, keptUncounted, startCall, readCall, stamped, sealCall, judged, checkCall, written, replayCall}
 use Rattle.capi.specs.Contracts.{editResult}
 use Rattle.capi.specs.LentRuns.{lentCall, LentRun, lentBegun, lentWith, lentFurther, lentRun, lentTask, lentTasks, Held, Boundary, BoundaryTheorem}
 use Rattle.capi.proofs.StateBytes.{HasRoom, state-back, bytes-back}
@@ -143,16 +143,16 @@ whole-kept state j l small z = rw (replayed-whole (stateFrom state) j z) (bytes-
 -- ---- from an accepted start or read, whatever bytes are lent
 
 pub boundary-theorem : BoundaryTheorem
-unfolding startCall readCall keptAtStart lentBegun fromStart fromRead begun
+unfolding startCall readCall kept keptUncounted lentBegun fromStart fromRead begun
 boundary-theorem =
     record {
-      start = λ s a lent calls.
+      start = λ s a lent count calls.
           boundary-run (s .key) (s .arm) (begun-start s (a .accepted) .fits) (a .arm) _ _ calls (holds-start s (a .accepted) (a .last)) (rw (eq-eqb _ 0 (a .accepted))) refl
           refl;
       read = λ r a lent calls.
           boundary-run (r .key) (r .arm) (begun-read r (a .accepted) .fits) (a .arm) _ _ calls (holds-read r (a .accepted) (a .last)) (rw (eq-eqb _ 0 (a .accepted))) refl
           refl;
-      start-tasks = λ s a lent ts.
+      start-tasks = λ s a lent count ts.
           task-run (s .key) (s .arm) (begun-start s (a .accepted) .fits) (a .arm) _ (begun (started s .state) (blank s)) ts (holds-start s (a .accepted) (a .last)) (rw (eq-eqb _ 0 (a .accepted))) refl;
       read-tasks = λ r a lent ts.
           task-run (r .key) (r .arm) (begun-read r (a .accepted) .fits) (a .arm) _ (begun (readFile r .state) (lentFile r)) ts (holds-read r (a .accepted) (a .last)) (rw (eq-eqb _ 0 (a .accepted))) refl;

@@ -18,7 +18,7 @@ use Rattle.file.specs.declared.sealing.Verdict.{Verdict}
 use Rattle.file.specs.declared.sealing.Verdict.the-variants as verdict
 use Rattle.file.specs.Contracts.{causeNumber, answerRefusal, outcomeRefusal, outcomeCount, stateAnswer, sealAnswer, checkAnswer}
 use Rattle.file.specs.Edits.{Edit}
-use Rattle.file.specs.States.{StateAnswer, edited}
+use Rattle.file.specs.States.{StateAnswer, Start, started, edited}
 use Rattle.file.specs.Slips.{SealAnswer, sealed, CheckAnswer, checked}
 use Rattle.file.proofs.ShapeLaws.{cause-pos}
 use Rattle.journal.specs.declared.replaying.Replayed.{Replayed}
@@ -26,8 +26,8 @@ use Rattle.journal.specs.Contracts as journal
 use Rattle.journal.specs.Contracts.{replayAnswer}
 use Rattle.journal.specs.Journals.{replayed}
 use Rattle.capi.specs.Bytes.{packedState, stateFrom}
-use Rattle.capi.specs.Calls.{EditCall, kept, editCall, StartCall, keptAtStart, SealCall, stamped, sealCall, CheckCall, judged, checkCall, written, replayCall}
-use Rattle.capi.specs.Contracts.{editResult, startResult, sealResult, checkResult, replayResult}
+use Rattle.capi.specs.Calls.{EditCall, kept, editCall, startCall, ReadCall, keptUncounted, SealCall, stamped, sealCall, CheckCall, judged, checkCall, written, replayCall}
+use Rattle.capi.specs.Contracts.{editResult, readResult, sealResult, checkResult, replayResult}
 
 -- a number that is a cause's is not 0
 refusal : (n : ℕ) (c : Cause) → n ≡ causeNumber c → n ≡ 0 → ⊥
@@ -57,21 +57,27 @@ unfolding editCall
 edit-call state e count es ea ex =
     ex ∙ ap (λ (b : StateAnswer). kept b state count) (ea ∙ ap (λ (t : State). edited t e) es)
 
+-- the start
+pub start-call : (s : Start) (state : List ℕ) (count : ℕ) {a : StateAnswer} {x : EditCall} → a ≡ started s → x ≡ kept a state count
+    → x ≡ startCall s state count
+unfolding startCall
+start-call s state count ea ex = ex ∙ ap (λ (b : StateAnswer). kept b state count) ea
+
 -- without the count
-uncounted : EditCall → StartCall
-uncounted x = startResult (x .refusal) (x .state)
+uncounted : EditCall → ReadCall
+uncounted x = readResult (x .refusal) (x .state)
 
-kept-begun : (t : Bool) (n m c : ℕ) (b s : List ℕ)
-    → uncounted (cond t (editResult 0 b m) (editResult n s c)) ≡ cond t (startResult 0 b) (startResult n s)
+kept-read : (t : Bool) (n m c : ℕ) (b s : List ℕ)
+    → uncounted (cond t (editResult 0 b m) (editResult n s c)) ≡ cond t (readResult 0 b) (readResult n s)
 unfolding uncounted
-kept-begun true n m c b s = refl
-kept-begun false n m c b s = refl
+kept-read true n m c b s = refl
+kept-read false n m c b s = refl
 
-pub begin-call : (state : List ℕ) (count : ℕ) {a b : StateAnswer} {x : EditCall} → a ≡ b → x ≡ kept a state count
-    → startResult (x .refusal) (x .state) ≡ keptAtStart b state
-unfolding kept keptAtStart uncounted
-begin-call state count {a} {b} e ex =
-    ap uncounted (ex ∙ ap (λ (y : StateAnswer). kept y state count) e) ∙ kept-begun (eqb (b .refusal) 0) _ _ _ _ _
+pub read-call : (state : List ℕ) (count : ℕ) {a b : StateAnswer} {x : EditCall} → a ≡ b → x ≡ kept a state count
+    → readResult (x .refusal) (x .state) ≡ keptUncounted b state
+unfolding kept keptUncounted uncounted
+read-call state count {a} {b} e ex =
+    ap uncounted (ex ∙ ap (λ (y : StateAnswer). kept y state count) e) ∙ kept-read (eqb (b .refusal) 0) _ _ _ _ _
 
 -- ---- seal
 

@@ -10,9 +10,9 @@ use Rattle.file.specs.Slips.{SealAnswer, sealed, CheckAnswer, checked}
 use Rattle.journal.specs.Journals.{ReplayAnswer, replayed}
 use Rattle.capi.specs.Bytes.{packedState, stateFrom}
 
--- ---- the five edits
+-- ---- the five edits and start
 
--- what an edit leaves: the refusal (document 01, "Causes and their numbers") or 0, the lent state and the lent count
+-- what an edit or a start leaves: the refusal (document 01, "Causes and their numbers") or 0, the lent state and the lent count
 pub record EditCall : Type 0 where
   pub refusal : ℕ
   pub state : List ℕ
@@ -29,25 +29,25 @@ kept a state count =
 unfoldable pub editCall : (state : List ℕ) → Edit → (count : ℕ) → EditCall
 editCall state e count = kept (edited (stateFrom state) e) state count
 
--- ---- start and read
+-- start: the file keeper's `started`, its state as `packedState` (document 01, "The file and its five edits"; document 02, Q-4)
+unfoldable pub startCall : Start → (state : List ℕ) (count : ℕ) → EditCall
+startCall s state count = kept (started s) state count
 
--- what start or read leaves: the refusal (document 01, "Causes and their numbers") or 0, and the lent state
-pub record StartCall : Type 0 where
+-- ---- read
+
+-- what read leaves: the refusal (document 01, "Causes and their numbers") or 0, and the lent state
+pub record ReadCall : Type 0 where
   pub refusal : ℕ
   pub state : List ℕ
 
 -- as `kept`, with no count (document 01, "Causes and their numbers")
-unfoldable pub keptAtStart : StateAnswer → (state : List ℕ) → StartCall
-keptAtStart a state =
+unfoldable pub keptUncounted : StateAnswer → (state : List ℕ) → ReadCall
+keptUncounted a state =
     cond (eqb (a .refusal) 0) (record { refusal = 0; state = packedState (a .state) }) (record { refusal = a .refusal; state = state })
 
--- start: the file keeper's `started`, its state as `packedState` (document 01, "The file and its five edits")
-unfoldable pub startCall : Start → (state : List ℕ) → StartCall
-startCall s state = keptAtStart (started s) state
-
 -- read: the file keeper's `readFile`, its state as `packedState` (document 01, "The file and its five edits")
-unfoldable pub readCall : Reading → (state : List ℕ) → StartCall
-readCall r state = keptAtStart (readFile r) state
+unfoldable pub readCall : Reading → (state : List ℕ) → ReadCall
+readCall r state = keptUncounted (readFile r) state
 
 -- ---- seal
 

@@ -1,15 +1,15 @@
 -- What serves contracts and laws alone: what a call leaves as one record, so that a contract is one equation.
 use mathlib.Core.List.{List}
 use Prim.Native.Nat.{ℕ}
-use Rattle.capi.specs.Calls.{EditCall, StartCall, SealCall, CheckCall, ReplayCall}
+use Rattle.capi.specs.Calls.{EditCall, ReadCall, SealCall, CheckCall, ReplayCall}
 
--- of an edit
+-- of an edit and of start
 abbrev pub editResult : (refusal : ℕ) (state : List ℕ) (count : ℕ) → EditCall
 editResult refusal state count = record { refusal = refusal; state = state; count = count }
 
--- of start and read
-abbrev pub startResult : (refusal : ℕ) (state : List ℕ) → StartCall
-startResult refusal state = record { refusal = refusal; state = state }
+-- of read
+abbrev pub readResult : (refusal : ℕ) (state : List ℕ) → ReadCall
+readResult refusal state = record { refusal = refusal; state = state }
 
 -- of seal
 abbrev pub sealResult : (refusal : ℕ) (state slip : List ℕ) → SealCall

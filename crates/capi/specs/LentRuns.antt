@@ -75,12 +75,12 @@ pub record Boundary (l : LentRun) (r : Run) : Type 0 where
 -- so after any list of calls from an accepted start and from an accepted read, whatever bytes were lent; and after any list in which journals stand
 -- as well, of the run in which they stand as their edits. A journal that is refused as a whole leaves the lent state as it was. The boundary's own
 pub record BoundaryTheorem : Type 0 where
-  pub start : (s : Start) → AcceptedStart s → (lent : List ℕ) (calls : List Call)
-      → Boundary (lentRun (lentBegun (startCall s lent .state)) calls) (fromStart s calls)
+  pub start : (s : Start) → AcceptedStart s → (lent : List ℕ) (count : ℕ) (calls : List Call)
+      → Boundary (lentRun (lentBegun (startCall s lent count .state)) calls) (fromStart s calls)
   pub read : (r : Reading) → AcceptedRead r → (lent : List ℕ) (calls : List Call)
       → Boundary (lentRun (lentBegun (readCall r lent .state)) calls) (fromRead r calls)
-  pub start-tasks : (s : Start) → AcceptedStart s → (lent : List ℕ) (ts : List Task)
-      → Held (lentTasks (lentBegun (startCall s lent .state)) ts) (fromStart s (asCalls (begun (started s .state) (blank s)) ts))
+  pub start-tasks : (s : Start) → AcceptedStart s → (lent : List ℕ) (count : ℕ) (ts : List Task)
+      → Held (lentTasks (lentBegun (startCall s lent count .state)) ts) (fromStart s (asCalls (begun (started s .state) (blank s)) ts))
   pub read-tasks : (r : Reading) → AcceptedRead r → (lent : List ℕ) (ts : List Task)
       → Held (lentTasks (lentBegun (readCall r lent .state)) ts) (fromRead r (asCalls (begun (readFile r .state) (lentFile r)) ts))
   pub whole : (state j : List ℕ) → length state ≡ stateBytes → ((i : ℕ) → i < stateBytes → getD state i 0 < 256)

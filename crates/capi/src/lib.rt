@@ -25,7 +25,7 @@ ghost use Rattle.gcm.specs.Gcm.{gmacRefusal, gmacOutput, encrypted, encryptResu
 ghost use Rattle.file.specs.Edits;
 ghost use Rattle.capi.specs.Bytes.{stateFrom};
 ghost use Rattle.capi.specs.Calls.{editCall, startCall, readCall, sealCall, checkCall, replayCall};
-ghost use Rattle.capi.specs.Contracts.{editResult, startResult, sealResult, checkResult, replayResult};
+ghost use Rattle.capi.specs.Contracts.{editResult, readResult, sealResult, checkResult, replayResult};
 
 // AES-128 of one block. Refused, in this order, with 1 where key or block is not 16 bytes and with 7 where out is not.
 #[no_mangle]
@@ -100,21 +100,22 @@ pub extern "C" fn armfile_gcm_decrypt(
     gcm_number(gcm::decrypt(key, nonce, aad, text, out, tag))
 }
 
-// The state of n zero bytes. Refused, in this order, with 1 where the key is not 16 bytes and with 2 where n passes 2^61 - 1; the lent state
-// then stays as it was.
+// The state of n fill bytes. Refused, in this order, with 1 where the key is not 16 bytes and with 2 where n passes 2^61 - 1; state and count
+// then stay as they were.
 #[no_mangle]
 pub extern "C" fn armfile_start(
     key: &[u8],
     arm: u32,
     last: u64,
     n: u64,
+    fill: u8,
     state: &mut [u8; STATE_BYTES],
+    count: &mut u64,
 ) -> u64
-    ensures { λ r. ⌜ startResult r (now (state .exit)) ≡ startCall (record { key = now (key .entry); arm = arm; last = last; n = n })
-        (now (state .entry)) ⌝ }
+    ensures { λ r. ⌜ editResult r (now (state .exit)) (now (count .exit))
+        ≡ startCall (record { key = now (key .entry); arm = arm; last = last; n = n; fill = fill }) (now (state .entry)) (now (count .entry)) ⌝ }
 {
-    let mut none = 0u64;
-    keep(State::start(key, arm, last, n), state, &mut none)
+    keep(State::start(key, arm, last, n, fill), state, count)
 }
 
 // The state of a lent file. Refused, in this order, with 1 where the key is not 16 bytes and with 2 where the file passes 2^61 - 1 bytes; the
@@ -127,7 +128,7 @@ pub extern "C" fn armfile_read(
     file: &[u8],
     state: &mut [u8; STATE_BYTES],
 ) -> u64
-    ensures { λ r. ⌜ startResult r (now (state .exit)) ≡ readCall (record { key = now (key .entry); arm = arm; last = last; file = now (file .entry) })
+    ensures { λ r. ⌜ readResult r (now (state .exit)) ≡ readCall (record { key = now (key .entry); arm = arm; last = last; file = now (file .entry) })
         (now (state .entry)) ⌝ }
 {
     let mut none = 0u64;

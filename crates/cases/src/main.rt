@@ -15,7 +15,7 @@ fn main() {
 
 // Edits of a file of 40 bytes.
 fn edits() {
-    let st = State::start(b"a key for arm 7.", 7, 0, 40).state;
+    let st = State::start(b"a key for arm 7.", 7, 0, 40, 0xff).state;
     print_edit(b"change of 0 bytes at 40 of 40", st.change(40, b"", b""));
     print_edit(b"change of 0 bytes at 41 of 40", st.change(41, b"", b""));
     print_edit(b"prepend 15", st.prepend(b"fifteen bytes.."));
@@ -25,22 +25,21 @@ fn edits() {
     );
 }
 
-// Starts about the largest length.
+// Starts about the largest length, with two fill bytes.
 fn starts() {
-    let key = b"a key for arm 7.";
-    print_edit(
-        b"start with 2^61 bytes",
-        State::start(key, 7, 0, 0x2000_0000_0000_0000),
-    );
-    print_edit(
-        b"start with 2^61 - 1 bytes",
-        State::start(key, 7, 0, MAX_BYTES),
-    );
+    print_start(b"start with 2^61 zero bytes", 0x2000_0000_0000_0000, 0);
+    print_start(b"start with 2^61 - 1 zero bytes", MAX_BYTES, 0);
+    print_start(b"start with 2^61 bytes of FF", 0x2000_0000_0000_0000, 0xff);
+    print_start(b"start with 2^61 - 1 bytes of FF", MAX_BYTES, 0xff);
+}
+
+fn print_start(name: &[u8], n: u64, fill: u8) {
+    print_edit(name, State::start(b"a key for arm 7.", 7, 0, n, fill));
 }
 
 // The last two seal numbers.
 fn seals() {
-    let near = State::start(b"a key for arm 7.", 7, 0xffff_ffff_ffff_fffe, 40).state;
+    let near = State::start(b"a key for arm 7.", 7, 0xffff_ffff_ffff_fffe, 40, 0xff).state;
     let mut slip = [0u8; SLIP_BYTES];
     let once = near.seal(&mut slip);
     let st = once.state;

@@ -1,5 +1,6 @@
-// One motion file's life: a blank start, four edits, a journal of two more that a service laptop brings, a seal, and after a restart one read
-// of the card and a check of the slip. Each step prints the file's length, the running sum and the count of products, or the verdict.
+// One motion file's life: a start on a blank card, which reads FF (hexadecimal), four edits, a journal of two more that a service laptop brings,
+// a seal, and after a restart one read of the card and a check of the slip. Each step prints the file's length, the running sum and the count of
+// products, or the verdict.
 use file::Answered;
 use file::Outcome;
 use file::SLIP_BYTES;
@@ -13,8 +14,14 @@ const ARM: u32 = 7;
 
 fn main() {
     let key = b"a key for arm 7.";
-    let st = print_step(b"start with 40 bytes", State::start(key, ARM, 0, 40));
-    let st = print_step(b"change bytes 15 to 17", st.change(15, b"\0\0\0", b"new"));
+    let st = print_step(
+        b"start with 40 bytes of FF",
+        State::start(key, ARM, 0, 40, 0xff),
+    );
+    let st = print_step(
+        b"change bytes 15 to 17",
+        st.change(15, b"\xff\xff\xff", b"new"),
+    );
     let st = print_step(b"append 9 bytes", st.append(b"gripper A"));
     let st = print_step(b"prepend 16 bytes", st.prepend(b"motion file head"));
     let st = print_step(b"cut 4 bytes", st.cut_tail(b"er A"));
@@ -29,11 +36,11 @@ fn main() {
     print_bytes(&slip);
     io::write_all(STDOUT_FILENO, b"\n");
 
-    // What the card then holds: the head, 40 bytes of which three were changed twice, and the appended ones.
+    // What the card then holds: the head, 40 bytes of FF of which three were changed twice, and the appended ones.
     let mut card =
-        *b"motion file head\0\0\0\0\0\0\0\0\0\0\0\0\0\0\0now\0\0\0\0\0\0\0\0\0\0\0\0\0\0\0\0\0\0\0\0\0\0gripper B";
+        *b"motion file head\xff\xff\xff\xff\xff\xff\xff\xff\xff\xff\xff\xff\xff\xff\xffnow\xff\xff\xff\xff\xff\xff\xff\xff\xff\xff\xff\xff\xff\xff\xff\xff\xff\xff\xff\xff\xff\xffgripper B";
     check(b"check after reading the card", &card, &slip);
-    card[40] = 1;
+    card[40] = 0xfe;
     check(b"check with one bit flipped", &card, &slip);
 }
 

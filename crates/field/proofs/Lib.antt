@@ -1,5 +1,5 @@
 -- The field's laws, from the bottom up. The layers above use those of Values, Ring, Powers, Bytes, XorBytes, BlockAt,
--- BlockCounts, Horner, Sums, Hash, Stream, Steps, FieldBench and Stores; the others serve these or this crate's functions.
+-- BlockCounts, Horner, Sums, Blank, Hash, Stream, Steps, FieldBench and Stores; the others serve these or this crate's functions.
 pub mod Span
 pub mod Recursion
 pub mod Product
@@ -27,4 +27,6 @@ pub mod Packed
 pub mod Folds
 pub mod BatchLaws
 pub mod Seek
+pub mod Series
+pub mod Blank
 pub mod Refusals

@@ -34,6 +34,15 @@ width-half (suc n) h = ap suc (digitsIn-enough n (suc n / 2) (suc n / 2) (half-l
 pub width-pos : (n : ℕ) → 0 < n → 0 < width n
 width-pos n h = omega (arith, width-half n h)
 
+-- and a one among its digits
+pub ones-pos : (n : ℕ) → 0 < n → 0 < ones n
+unfolding ones
+ones-pos = bin-ind (λ (n : ℕ). 0 < n → 0 < ones n) (λ h. absurd (not-suc-le-zero h)) (λ n ih h. go n ih h (eq-zero-or-pos (n / 2)))
+  where
+    go : (n : ℕ) → (0 < n / 2 → 0 < ones (n / 2)) → 0 < n → (n / 2 ≡ 0) ⊎ (0 < n / 2) → 0 < ones n
+    go n ih h (inl e) = omega (arith, ones-step n)
+    go n ih h (inr p) = omega (arith, ones-step n, ih p)
+
 -- a larger number is no narrower
 pub width-mono : (n m : ℕ) → n ≤ m → width n ≤ width m
 unfolding width digitsIn

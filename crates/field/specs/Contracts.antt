@@ -7,6 +7,7 @@ use lib.ListN.{length, getD}
 use Rattle.field.specs.declared.blocks.Block.{Block}
 use Rattle.field.specs.declared.multiplying.Counted.{Counted}
 use Rattle.field.specs.declared.seeking.Sought.{Sought}
+use Rattle.field.specs.declared.filling.Powers.{Powers}
 use Rattle.field.specs.declared.streaming.Stream.{Stream}
 use Rattle.field.specs.declared.Cause.{Cause}
 use Rattle.field.specs.declared.Cause.the-variants.{InputLength, TooLong, OutputLength}
@@ -33,6 +34,10 @@ counted v n = record { value = v; count = record { raised = n } }
 -- a power, seek's steps, and that running count (the same)
 abbrev pub sought : Block → ℕ → ℕ → Sought
 sought p s n = record { power = p; steps = s; count = record { raised = n } }
+
+-- powers added up, the next power, and that running count (document 02, Q-4)
+abbrev pub powersTo : Block → Block → ℕ → Powers
+powersTo s p n = record { sum = s; next = p; count = record { raised = n } }
 
 -- a stream under H that has taken the bytes s, of whole blocks or at their end: H, the sum of s, and how many bytes they are
 unfoldable pub streamed : Block → List ℕ → Stream

@@ -4,6 +4,7 @@ pub use Rattle.field.specs.Bytes.{number, bytes, xorBytes}
 pub use Rattle.field.specs.Blocks.{value, block, Small, _⊕_, _•_, zeroBlock, one, blockAt, bytesOf}
 pub use Rattle.field.specs.Powers.{power, companion, width, steps}
 pub use Rattle.field.specs.Sums.{blocks, sum}
+pub use Rattle.field.specs.Series.{series, seriesSteps, fillBlock, lastBlock, unfilled, blankSum, blankCount, BlankSum}
 pub use Rattle.field.specs.Ghash.{Yᵢ, lengthBlock, ghash}
 pub use Rattle.field.specs.Contracts.{causeNumber, answerRefusal, counted, sought, streamed, absorbed}
 pub use Rattle.field.specs.Streams.{absorbedAll, finished, joined, Whole, none, last, more}

@@ -4,6 +4,7 @@ pub mod Bytes
 pub mod Blocks
 pub mod Powers
 pub mod Sums
+pub mod Series
 pub mod Ghash
 pub mod Contracts
 pub mod Streams

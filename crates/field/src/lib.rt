@@ -2,6 +2,7 @@
 // knows nothing of the cipher or of files.
 mod batches;
 pub mod blocks;
+pub mod filling;
 pub mod hashing;
 pub mod multiplying;
 pub mod packing;

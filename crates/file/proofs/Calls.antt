@@ -12,7 +12,7 @@ use lib.ListN.{length}
 use borrow.Author.Tests.{eq-eqb, ne-eqb, le-ltb}
 use Rattle.refusals.proofs.Laws.{first-none, first-later}
 use Rattle.cipher.specs.Aes.{keyFits}
-use Rattle.field.specs.Field.{zeroBlock, sum, maxBytes}
+use Rattle.field.specs.Field.{sum, blankSum, blankCount, maxBytes}
 use Rattle.gcm.specs.Gcm.{hashKey}
 use Rattle.file.specs.declared.states.State.{State}
 use Rattle.file.specs.Edits.{Edit, kindOf, given, replacing, geometryAt, editRefusal, countOf}
@@ -98,49 +98,56 @@ machine-accepted m c z = simp (eq-eqb _ _ z)
 
 -- ---- start and read
 
-begun-refused : (r : ℕ) (st : State) → r ≢ 0 → begunWith r st ≡ refusedWith zeroState r
+begun-refused : (r : ℕ) (st : State) (count : ℕ) → r ≢ 0 → begunWith r st count ≡ refusedWith zeroState r
 unfolding begunWith
-begun-refused r st z = simp (ne-eqb _ _ z)
+begun-refused r st count z = simp (ne-eqb _ _ z)
 
-begun-accepted : (r : ℕ) (st : State) → r ≡ 0 → begunWith r st ≡ acceptedWith st 0
+begun-accepted : (r : ℕ) (st : State) (count : ℕ) → r ≡ 0 → begunWith r st count ≡ acceptedWith st count
 unfolding begunWith
-begun-accepted r st z = simp (eq-eqb _ _ z)
+begun-accepted r st count z = simp (eq-eqb _ _ z)
 
-begun-tells : (r : ℕ) (st : State) → (r ≡ 0) ⊎ (0 < r) → begunWith r st .refusal ≡ r
-begun-tells r st (inl z) = ap (λ (a : StateAnswer). a .refusal) (begun-accepted r st z) ∙ sym z
-begun-tells r st (inr z) = ap (λ (a : StateAnswer). a .refusal) (begun-refused r st (λ y. omega arith))
+begun-tells : (r : ℕ) (st : State) (count : ℕ) → (r ≡ 0) ⊎ (0 < r) → begunWith r st count .refusal ≡ r
+begun-tells r st count (inl z) = ap (λ (a : StateAnswer). a .refusal) (begun-accepted r st count z) ∙ sym z
+begun-tells r st count (inr z) = ap (λ (a : StateAnswer). a .refusal) (begun-refused r st count (λ y. omega arith))
 
 -- they answer their refusal
-pub begun-refusal : (r : ℕ) (st : State) → begunWith r st .refusal ≡ r
-begun-refusal r st = begun-tells r st (eq-zero-or-pos r)
+pub begun-refusal : (r : ℕ) (st : State) (count : ℕ) → begunWith r st count .refusal ≡ r
+begun-refusal r st count = begun-tells r st count (eq-zero-or-pos r)
 
--- and the state of all zeros where they refuse
-pub begun-zeros : (r : ℕ) (st : State) → begunWith r st .refusal ≢ 0 → begunWith r st .state ≡ zeroState
-begun-zeros r st z = ap (λ (a : StateAnswer). a .state) (begun-refused r st (λ y. z (begun-refusal r st ∙ y)))
+-- and the state of all zeros, with no count, where they refuse
+pub begun-zeros : (r : ℕ) (st : State) (count : ℕ) → begunWith r st count .refusal ≢ 0 → begunWith r st count ≡ refusedWith zeroState r
+begun-zeros r st count z = begun-refused r st count (λ y. z (begun-refusal r st count ∙ y))
 
--- an accepted start or read has the state for its key
-pub record Begun (key : List ℕ) (n : ℕ) (st made : State) : Type 0 where
+-- an accepted start or read has the state for its key, and its count
+pub record Begun (key : List ℕ) (n : ℕ) (st : State) (count : ℕ) (made : StateAnswer) : Type 0 where
   pub fits : keyFits key ≡ true
   pub short : n ≤ maxBytes
-  pub state : made ≡ st
+  pub state : made .state ≡ st
+  pub counts : made .count ≡ count
 
-begun-by : (key : List ℕ) (n : ℕ) (st : State) → begunWith (beginRefusal key n) st .refusal ≡ 0
-    → Begun key n st (begunWith (beginRefusal key n) st .state)
-begun-by key n st e =
-    let z : beginRefusal key n ≡ 0 = sym (begun-refusal _ st) ∙ e in
+begun-by : (key : List ℕ) (n : ℕ) (st : State) (count : ℕ) → begunWith (beginRefusal key n) st count .refusal ≡ 0
+    → Begun key n st count (begunWith (beginRefusal key n) st count)
+begun-by key n st count e =
+    let z : beginRefusal key n ≡ 0 = sym (begun-refusal _ st count) ∙ e in
     let b = begins key n z in
-    record { fits = b .fits; short = b .short; state = ap (λ (a : StateAnswer). a .state) (begun-accepted _ st z) }
+    let all = begun-accepted _ st count z in
+    record {
+      fits = b .fits;
+      short = b .short;
+      state = ap (λ (a : StateAnswer). a .state) all;
+      counts = ap (λ (a : StateAnswer). a .count) all;
+    }
 
 pub begun-start : (s : Start) → started s .refusal ≡ 0
-    → Begun (s .key) (s .n) (stateOf (s .key) zeroBlock (s .n) (s .arm) (s .last)) (started s .state)
+    → Begun (s .key) (s .n) (stateOf (s .key) (blankSum (hashKey (s .key)) (s .fill) (s .n)) (s .n) (s .arm) (s .last)) (blankCount (s .fill) (s .n))
+    (started s)
 unfolding started
-begun-start s e = begun-by (s .key) (s .n) _ e
+begun-start s e = begun-by (s .key) (s .n) _ _ e
 
 pub begun-read : (r : Reading) → readFile r .refusal ≡ 0
-    → Begun (r .key) (length (r .file)) (stateOf (r .key) (sum (hashKey (r .key)) (r .file)) (length (r .file)) (r .arm) (r .last))
-    (readFile r .state)
+    → Begun (r .key) (length (r .file)) (stateOf (r .key) (sum (hashKey (r .key)) (r .file)) (length (r .file)) (r .arm) (r .last)) 0 (readFile r)
 unfolding readFile
-begun-read r e = begun-by (r .key) (length (r .file)) _ e
+begun-read r e = begun-by (r .key) (length (r .file)) _ _ e
 
 -- a start or read is accepted where the key fits and the file is not too long
 begin-accepts : (key : List ℕ) (n : ℕ) → keyFits key ≡ true → n ≤ maxBytes → beginRefusal key n ≡ 0
@@ -149,8 +156,8 @@ begin-accepts key n k l = sym (first-later _ _ _ (ap not k) (first-later _ _ _ (
 
 pub start-accepts : (s : Start) → keyFits (s .key) ≡ true → s .n ≤ maxBytes → started s .refusal ≡ 0
 unfolding started
-start-accepts s k l = begun-refusal _ _ ∙ begin-accepts (s .key) (s .n) k l
+start-accepts s k l = begun-refusal _ _ _ ∙ begin-accepts (s .key) (s .n) k l
 
 pub read-accepts : (r : Reading) → keyFits (r .key) ≡ true → length (r .file) ≤ maxBytes → readFile r .refusal ≡ 0
 unfolding readFile
-read-accepts r k l = begun-refusal _ _ ∙ begin-accepts (r .key) (length (r .file)) k l
+read-accepts r k l = begun-refusal _ _ _ ∙ begin-accepts (r .key) (length (r .file)) k l

@@ -9,7 +9,7 @@ use native.Mathlib.Nat.{eq-zero-or-pos}
 use native.Mathlib.Omega.{arith}
 use Rattle.file.specs.declared.states.State.{State}
 use Rattle.file.specs.Edits.{Edit}
-use Rattle.file.specs.States.{edited, started, readFile}
+use Rattle.file.specs.States.{StateAnswer, edited, started, readFile}
 use Rattle.file.specs.Slips.{sealed}
 use Rattle.file.specs.Calls.{Call, edit, seal, check, callRefusal, lentSlip, CallAnswer, callAnswer}
 use Rattle.file.specs.Demands.{Demand1}
@@ -40,10 +40,10 @@ demand-1 =
       causes = causes;
       kept = λ st c z. (ap (λ (a : CallAnswer). a .state) (whole st c z), ap (λ (a : CallAnswer). a .slip) (whole st c z));
       uncounted = λ st c z. (ap (λ (a : CallAnswer). a .count) (whole st c z), ap (λ (a : CallAnswer). a .issued) (whole st c z));
-      start-causes = λ s. begun-refusal _ _;
-      start-zeros = λ s z. begun-zeros _ _ z;
-      read-causes = λ r. begun-refusal _ _;
-      read-zeros = λ r z. begun-zeros _ _ z;
+      start-causes = λ s. begun-refusal _ _ _;
+      start-zeros = λ s z. (ap (λ (a : StateAnswer). a .state) (begun-zeros _ _ _ z), ap (λ (a : StateAnswer). a .count) (begun-zeros _ _ _ z));
+      read-causes = λ r. begun-refusal _ _ _;
+      read-zeros = λ r z. ap (λ (a : StateAnswer). a .state) (begun-zeros _ _ _ z);
     }
 
 -- ---- an edit and a seal by themselves

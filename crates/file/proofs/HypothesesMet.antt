@@ -54,14 +54,14 @@ append-bytes m s l = ap (λ (b : MachineAnswer). b .machine .bytes) (machine-acc
 
 -- demand 3's reader of the list of this one call, which is true, has the sum of the bytes that it leaves
 one-append : (s : Start) → AcceptedStart s → (f : List ℕ) → s .n + length f ≤ maxBytes
-    → fromStart s (edit (append f) ∷ []) .state .s ≡ sum (hashKey (s .key)) (replicate (s .n) 0 ++ f)
+    → fromStart s (edit (append f) ∷ []) .state .s ≡ sum (hashKey (s .key)) (replicate (s .n) (s .fill) ++ f)
 unfolding Demand3 fromStart run further begun blank stateOf
 one-append s a f l =
     let m = blank s in
     let b = demand-3 s a (edit (append f) ∷ []) .reader (tt, append-true m f) 0 0 in
     b .sum
     ∙ ap (λ (st : State). st .s) (begun-read _ (b .accepted) .state)
-    ∙ ap (sum (hashKey (s .key))) (append-bytes m f (rw (length-replicate {A = ℕ} (s .n) 0) l))
+    ∙ ap (sum (hashKey (s .key))) (append-bytes m f (rw (length-replicate (s .n) (s .fill)) l))
 
 -- ---- the whole
 

@@ -14,10 +14,10 @@ use lib.Dec.{eqb}
 use lib.ListN.{length, length-replicate}
 use borrow.Author.Tests.{eq-eqb, ne-eqb}
 use Rattle.field.specs.declared.blocks.Block.{Block}
-use Rattle.field.specs.Field.{Small, zeroBlock, sum, companion, maxBytes}
-use Rattle.field.proofs.Values.{small-zero}
+use Rattle.field.specs.Field.{Small, sum, companion, maxBytes}
 use Rattle.field.proofs.Ring.{small-⊕, small-•}
-use Rattle.field.proofs.Sums.{small-sum, sum-zeros}
+use Rattle.field.proofs.Sums.{small-sum}
+use Rattle.field.proofs.Blank.{blank-sum, small-blank}
 use Rattle.gcm.specs.Gcm.{hashKey}
 use Rattle.gcm.proofs.TagLaws.{small-hash}
 use Rattle.file.specs.declared.geometry.Kind.{Kind}
@@ -77,11 +77,11 @@ unfolding blank
 holds-start s e r =
     let b = begun-start s e in
     subst (λ (st : State). Holds (s .key) (s .arm) st (blank s)) (sym (b .state))
-    (holds-made (s .key) zeroBlock (s .n) (s .arm) (blank s) small-zero (sym (length-replicate (s .n) 0)) (b .short) r)
+    (holds-made (s .key) _ (s .n) (s .arm) (blank s) (small-blank _ (s .fill) (s .n)) (sym (length-replicate (s .n) (s .fill))) (b .short) r)
 
 pub summed-start : (s : Start) → started s .refusal ≡ 0 → Summed (s .key) (started s .state) (blank s)
 unfolding blank stateOf
-summed-start s e = ap (λ (st : State). st .s) (begun-start s e .state) ∙ sym (sum-zeros (hashKey (s .key)) (s .n))
+summed-start s e = ap (λ (st : State). st .s) (begun-start s e .state) ∙ blank-sum .sums (hashKey (s .key)) (s .fill) (s .n)
 
 pub holds-read : (r : Reading) → readFile r .refusal ≡ 0 → r .last < 2 ^ 64 → Holds (r .key) (r .arm) (readFile r .state) (lent r)
 unfolding lent

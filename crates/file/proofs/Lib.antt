@@ -13,6 +13,7 @@ pub mod EditAnswers
 pub mod SealLaws
 pub mod Numbers
 pub mod Invariant
+pub mod BlankStart
 pub mod Agreement
 pub mod Demand2
 pub mod Demand3

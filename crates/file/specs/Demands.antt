@@ -1,12 +1,13 @@
--- The three demands, whole. Their proofs are `demand-1`, `demand-2` and `demand-3` in proofs/Demand1, Demand2 and Demand3.
+-- The three demands, whole, and what a start begins with. Their proofs are `demand-1`, `demand-2` and `demand-3` in proofs/Demand1, Demand2 and
+-- Demand3, and `blank-start` in proofs/BlankStart.
 use mathlib.Core.Path.{_≡_}
 use mathlib.Core.Bool.{true}
-use mathlib.Core.Logic.{_↔_, _≢_}
+use mathlib.Core.Logic.{_↔_, _≢_, _⊎_}
 use mathlib.Core.List.{List, [], _∷_}
 use Prim.Native.Nat.{ℕ, zero, suc, _+_, _≤_, _<_, _^_}
-use lib.ListN.{length, getD}
-use Rattle.field.specs.Field.{value, maxBytes}
-use Rattle.gcm.specs.Gcm.{gmac, tagOf}
+use lib.ListN.{length, getD, replicate}
+use Rattle.field.specs.Field.{value, zeroBlock, sum, blankCount, maxBytes}
+use Rattle.gcm.specs.Gcm.{hashKey, gmac, tagOf}
 use Rattle.file.specs.declared.states.State.{State}
 use Rattle.file.specs.States.{keyOf, zeroState, Start, Reading, beginRefusal, started, readFile}
 use Rattle.file.specs.Slips.{slipBytes, slipVersion, slipLength, slipArm, slipNumber, slipTag, nonceOf, sealed, checked}
@@ -17,15 +18,27 @@ use Rattle.file.specs.Runs.{Run, fromStart, fromRead}
 -- ---- demand 1
 
 -- every call answers the first of its listed causes or 0; a refused call on a state leaves it and a lent slip as they were, and a refused
--- start or read gives the state of all zeros (document 01, "Causes and their numbers" and "The file and its five edits")
+-- start or read gives the state of all zeros; a refused call counts nothing (document 01, "Causes and their numbers" and "The file and its five
+-- edits")
 pub record Demand1 : Type 0 where
   pub causes : (st : State) (c : Call) → callAnswer st c .refusal ≡ callRefusal (st .n) (st .last) c
   pub kept : (st : State) (c : Call) → callAnswer st c .refusal ≢ 0 → (callAnswer st c .state ≡ st) × (callAnswer st c .slip ≡ lentSlip c)
   pub uncounted : (st : State) (c : Call) → callAnswer st c .refusal ≢ 0 → (callAnswer st c .count ≡ 0) × (callAnswer st c .issued ≡ [])
   pub start-causes : (s : Start) → started s .refusal ≡ beginRefusal (s .key) (s .n)
-  pub start-zeros : (s : Start) → started s .refusal ≢ 0 → started s .state ≡ zeroState
+  pub start-zeros : (s : Start) → started s .refusal ≢ 0 → (started s .state ≡ zeroState) × (started s .count ≡ 0)
   pub read-causes : (r : Reading) → readFile r .refusal ≡ beginRefusal (r .key) (length (r .file))
   pub read-zeros : (r : Reading) → readFile r .refusal ≢ 0 → readFile r .state ≡ zeroState
+
+-- ---- a start
+
+-- an accepted start has the sum of n fill bytes and reports the multiplications that it took, for n = 0 and for fill 0 a zero sum and 0 (document
+-- 02, Q-4); that count is start's own and stands in no run's total
+pub record BlankStart : Type 0 where
+  pub sums : (s : Start) → started s .refusal ≡ 0 → started s .state .s ≡ sum (hashKey (s .key)) (replicate (s .n) (s .fill))
+  pub counts : (s : Start) → started s .refusal ≡ 0 → started s .count ≡ blankCount (s .fill) (s .n)
+  pub nothing :
+      (s : Start) → started s .refusal ≡ 0 → (s .n ≡ 0) ⊎ (s .fill ≡ 0) → (started s .state .s ≡ zeroBlock) × (started s .count ≡ 0)
+  pub apart : (s : Start) → fromStart s [] .total ≡ 0
 
 -- ---- what demands 2 and 3 begin with
 

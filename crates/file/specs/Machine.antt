@@ -15,9 +15,9 @@ pub record Machine : Type 0 where
   pub bytes : List ℕ
   pub last : ℕ
 
--- after an accepted start: n zero bytes and the number given (document 01, "The file and its five edits")
+-- after an accepted start: n copies of the fill byte and the number given (document 01, "The file and its five edits"; document 02, Q-4)
 unfoldable pub blank : Start → Machine
-blank s = record { bytes = replicate (s .n) 0; last = s .last }
+blank s = record { bytes = replicate (s .n) (s .fill); last = s .last }
 
 -- after an accepted read: the lent file's bytes and the number given (document 01, "The file and its five edits")
 unfoldable pub lent : Reading → Machine

@@ -31,4 +31,4 @@ pub record Met : Type 0 where
   -- so demand 3 says of a list of one call what its sum is
   pub one-append :
       (s : Start) → AcceptedStart s → (given : List ℕ) → s .n + length given ≤ maxBytes
-      → fromStart s (edit (append given) ∷ []) .state .s ≡ sum (hashKey (s .key)) (replicate (s .n) 0 ++ given)
+      → fromStart s (edit (append given) ∷ []) .state .s ≡ sum (hashKey (s .key)) (replicate (s .n) (s .fill) ++ given)

@@ -7,7 +7,7 @@ use lib.ListN.{length, replicate}
 use Rattle.refusals.specs.Refusals.{first}
 use Rattle.cipher.specs.Aes.{keyFits}
 use Rattle.field.specs.declared.blocks.Block.{Block}
-use Rattle.field.specs.Field.{zeroBlock, companion, sum, maxBytes}
+use Rattle.field.specs.Field.{companion, sum, blankSum, blankCount, maxBytes}
 use Rattle.gcm.specs.Gcm.{hashKey}
 use Rattle.file.specs.declared.states.State.{State}
 use Rattle.file.specs.declared.geometry.Kind.{Kind}
@@ -56,12 +56,13 @@ acceptedWith st count = record { state = st; refusal = 0; count = count }
 
 -- ---- start and read
 
--- start's arguments (document 01, "The file and its five edits")
+-- start's arguments (document 01, "The file and its five edits"; the fill byte: document 02, Q-4)
 pub record Start : Type 0 where
   pub key : List ℕ
   pub arm : ℕ
   pub last : ℕ
   pub n : ℕ
+  pub fill : ℕ
 
 -- read's: a lent file in place of n (document 01, "The file and its five edits")
 pub record Reading : Type 0 where
@@ -74,19 +75,22 @@ pub record Reading : Type 0 where
 unfoldable pub beginRefusal : (key : List ℕ) (n : ℕ) → ℕ
 beginRefusal key n = first ((not (keyFits key), 1) ∷ (ltb maxBytes n, 2) ∷ [])
 
--- what start and read answer, by their refusal and the state that they make where accepted (document 01, "The file and its five edits")
-unfoldable pub begunWith : ℕ → State → StateAnswer
-begunWith refusal st = cond (eqb refusal 0) (acceptedWith st 0) (refusedWith zeroState refusal)
+-- what start and read answer, by their refusal and, where accepted, the state that they make and the count (document 01, "The file and its five
+-- edits")
+unfoldable pub begunWith : ℕ → State → (count : ℕ) → StateAnswer
+begunWith refusal st count = cond (eqb refusal 0) (acceptedWith st count) (refusedWith zeroState refusal)
 
--- start: n zero bytes with S = 0 (document 01, "The file and its five edits")
+-- start: a blank file of n fill bytes, with its sum and the count of its multiplications (document 02, Q-4)
 unfoldable pub started : Start → StateAnswer
-started s = begunWith (beginRefusal (s .key) (s .n)) (stateOf (s .key) zeroBlock (s .n) (s .arm) (s .last))
+started s =
+    begunWith (beginRefusal (s .key) (s .n))
+    (stateOf (s .key) (blankSum (hashKey (s .key)) (s .fill) (s .n)) (s .n) (s .arm) (s .last)) (blankCount (s .fill) (s .n))
 
--- read: a lent file, with S that file's sum (document 01, "The file and its five edits")
+-- read: a lent file, with S that file's sum; it reports no count (document 01, "The file and its five edits")
 unfoldable pub readFile : Reading → StateAnswer
 readFile r =
     begunWith (beginRefusal (r .key) (length (r .file)))
-    (stateOf (r .key) (sum (hashKey (r .key)) (r .file)) (length (r .file)) (r .arm) (r .last))
+    (stateOf (r .key) (sum (hashKey (r .key)) (r .file)) (length (r .file)) (r .arm) (r .last)) 0
 
 -- ---- the edits: asked, then put
 

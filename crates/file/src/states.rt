@@ -3,8 +3,10 @@ use super::causes::Answer;
 use super::causes::Cause;
 use cipher::Key;
 use field::Block;
+use field::filling::blank_sum;
 use field::hashing::MAX_BYTES;
 use field::multiplying::Count;
+use field::multiplying::Counted;
 use field::seeking::companion;
 use field::summing::sum;
 use gcm::tags::hash_key;
@@ -28,7 +30,7 @@ pub struct State {
 }
 
 pub enum Outcome {
-    // Accepted; of an edit, with its count of products.
+    // Accepted; of an edit and of a start, with its count of products.
     Done(Count),
     Refused(Cause),
 }
@@ -40,9 +42,10 @@ pub struct Answered {
 }
 
 impl State {
-    // The state of n zero bytes. Refused with 1 where the key is not 16 bytes, with 2 where n passes 2^61 - 1, and then all zeros.
-    pub fn start(key: &[u8], arm: u32, last: u64, n: u64) -> Answered
-        ensures { λ x. ⌜ stateAnswer x ≡ started (record { key = now (key .entry); arm = arm; last = last; n = n }) ⌝ }
+    // The state of n fill bytes, and the count of the products of its sum. Refused with 1 where the key is not 16 bytes, with 2 where n passes
+    // 2^61 - 1, and then all zeros.
+    pub fn start(key: &[u8], arm: u32, last: u64, n: u64, fill: u8) -> Answered
+        ensures { λ x. ⌜ stateAnswer x ≡ started (record { key = now (key .entry); arm = arm; last = last; n = n; fill = fill }) ⌝ }
     {
         let answer = begin_refusal(key, n);
         if let Answer::Refused(cause) = answer {
@@ -50,7 +53,8 @@ impl State {
         }
         let k = Key::from_bytes(key);
         let h = hash_key(k);
-        begun(k, h, Block::ZERO, n, arm, last)
+        let blank = blank_sum(h, fill, n, Count::none());
+        begun(k, h, blank, n, arm, last)
     }
 
     // The state of a lent file. Refused with 1 where the key is not 16 bytes, with 2 where the file passes 2^61 - 1 bytes, and then all zeros.
@@ -64,7 +68,9 @@ impl State {
         }
         let k = Key::from_bytes(key);
         let h = hash_key(k);
-        begun(k, h, sum(h, file), n, arm, last)
+        let value = sum(h, file);
+        let count = Count::none();
+        begun(k, h, Counted { value, count }, n, arm, last)
     }
 }
 
@@ -81,11 +87,13 @@ fn begin_refusal(key: &[u8], n: u64) -> Answer
     Answer::Done
 }
 
-// An accepted start or read: the state of a key with its hash key, and of a file's sum and length.
-fn begun(key: Key, h: Block, s: Block, n: u64, arm: u32, last: u64) -> Answered
+// An accepted start or read: the state of a key with its hash key, and of a file's sum, which took a count of products, and length.
+fn begun(key: Key, h: Block, sum: Counted, n: u64, arm: u32, last: u64) -> Answered
     requires { ⌜ h ≡ hashKey (key .bytes) ⌝ }
-    ensures { λ x. ⌜ stateAnswer x ≡ acceptedWith (stateOf (key .bytes) s n arm last) 0 ⌝ }
+    ensures { λ x. ⌜ stateAnswer x ≡ acceptedWith (stateOf (key .bytes) (sum .value) n arm last) (sum .count .raised) ⌝ }
 {
+    let s = sum.value;
+    let count = sum.count;
     Answered {
         state: State {
             key,
@@ -96,7 +104,7 @@ fn begun(key: Key, h: Block, s: Block, n: u64, arm: u32, last: u64) -> Answered
             arm,
             last,
         },
-        outcome: Outcome::Done(Count::none()),
+        outcome: Outcome::Done(count),
     }
 }
 

@@ -1,18 +1,23 @@
-//! One motion file's life in a controller: taken in line by line, edited,
-//! sealed, stored with its slip, and checked after a restart. The last line
-//! printed says whether the slip is genuine.
+//! One motion file's life in a controller: begun on a blank card, written and
+//! edited, sealed, stored with its slip, and checked after a restart. The last
+//! line printed says whether the slip is genuine.
 
 use armfile::{Refusal, State, SLIP_BYTES};
 
 const KEY: [u8; 16] = *b"from a key store";
 const ARM: u32 = 7;
 
+/// What every byte of an erased card reads.
+const ERASED: u8 = 0xff;
+
 fn main() -> Result<(), Refusal> {
-    // An empty file, for a key that has sealed nothing on this arm.
-    let mut state = State::start(&KEY, ARM, 0, 0)?;
-    for line in ["MOVE 10 20 30\n", "GRIP 4\n", "MOVE 0 0 0\n"] {
-        state.append(line.as_bytes())?;
-    }
+    // 21 bytes of a card just erased, for a key that has sealed nothing on
+    // this arm. The first lines go over those bytes, and one more after them.
+    let blank = [ERASED; 21];
+    let (mut state, products) = State::start(&KEY, ARM, 0, 21, ERASED)?;
+    println!("the blank card took {products} products");
+    state.change(0, &blank, b"MOVE 10 20 30\nGRIP 4\n")?;
+    state.append(b"MOVE 0 0 0\n")?;
 
     // Bytes 5 and 6, until now "10", become "11"; sixteen bytes go in front;
     // the last line leaves.

@@ -94,7 +94,9 @@ pub mod c {
             arm: u32,
             last: u64,
             n: u64,
+            fill: u8,
             state: *mut u8,
+            count: *mut u64,
         ) -> u64;
         pub fn armfile_read(
             key: *const u8,
@@ -297,9 +299,28 @@ pub fn gcm_decrypt(
 }
 
 /// `armfile_start`: [`crate::State::start`].
-pub fn start(key: &[u8], arm: u32, last: u64, n: u64, state: &mut StateBytes) -> u64 {
+pub fn start(
+    key: &[u8],
+    arm: u32,
+    last: u64,
+    n: u64,
+    fill: u8,
+    state: &mut StateBytes,
+    count: &mut u64,
+) -> u64 {
     // SAFETY: as said at the module's head.
-    unsafe { c::armfile_start(pointer(key), key.len(), arm, last, n, state.as_mut_ptr()) }
+    unsafe {
+        c::armfile_start(
+            pointer(key),
+            key.len(),
+            arm,
+            last,
+            n,
+            fill,
+            state.as_mut_ptr(),
+            count,
+        )
+    }
 }
 
 /// `armfile_read`: [`crate::State::read`].

@@ -276,13 +276,36 @@ pub struct State {
 }
 
 impl State {
-    /// The state of a file of `n` zero bytes, for the arm with this number,
-    /// with `last` the last used seal number: 0 for a new arm and key.
-    /// Refusals, in this order: 1, 2.
-    pub fn start(key: &[u8], arm: u32, last: u64, n: u64) -> Result<State, Refusal> {
+    /// The state of a blank file, `n` copies of the byte `fill`, which must be
+    /// what the erased card reads; for the arm with this number, with `last`
+    /// the last used seal number: 0 for a new arm and key. With `n` 0 the file
+    /// is empty, and may be appended piece by piece. Returns the state and the
+    /// count of multiplications of its sum: at most 227 whatever `n` is, and 0
+    /// where `n` or `fill` is 0. Refusals, in this order: 1, 2.
+    ///
+    /// ```
+    /// use armfile::State;
+    ///
+    /// # fn main() -> Result<(), armfile::Refusal> {
+    /// let key = [7; 16]; // from the key store
+    /// let (mut state, count) = State::start(&key, 3, 0, 40, 0xff)?;
+    /// assert_eq!((state.length(), count), (40, 5));
+    /// state.change(8, &[0xff; 4], b"GRIP")?; // until now the bytes are blank
+    /// # Ok(())
+    /// # }
+    /// ```
+    pub fn start(
+        key: &[u8],
+        arm: u32,
+        last: u64,
+        n: u64,
+        fill: u8,
+    ) -> Result<(State, u64), Refusal> {
         let mut state = State::from_bytes([0; STATE_BYTES]);
-        Refusal::of(ffi::start(key, arm, last, n, &mut state.bytes))?;
-        Ok(state)
+        let mut count = 0;
+        let answer = ffi::start(key, arm, last, n, fill, &mut state.bytes, &mut count);
+        Refusal::of(answer)?;
+        Ok((state, count))
     }
 
     /// The state of a lent file, which is read once and not kept. Refusals,
@@ -391,7 +414,7 @@ impl State {
     /// journal[12..17].copy_from_slice(b"GRIP\n");
     /// journal[17] = 7 << 5; // a record of no known kind
     ///
-    /// let mut state = State::start(&[7; 16], 3, 0, 0)?;
+    /// let (mut state, _) = State::start(&[7; 16], 3, 0, 0, 0)?;
     /// let before = *state.as_bytes(); // it holds the key, and is the caller's to wipe
     /// let replayed = state.replay(&journal);
     /// assert_eq!((replayed.count, replayed.offset), (3, 17));
@@ -477,16 +500,16 @@ mod tests {
         assert_eq!(short, Err(Refusal::KeyOrBlockLength));
         let no_nonce = gmac(&key, &[], &key, &mut out);
         assert_eq!(no_nonce, Err(Refusal::EmptyNonce));
-        let long = State::start(&key, 2, 3, MAX_BYTES + 1).map(|_| ());
+        let long = State::start(&key, 2, 3, MAX_BYTES + 1, 0xff).map(|_| ());
         assert_eq!(long, Err(Refusal::TooLong));
-        let mut state = State::start(&key, 2, u64::MAX, 40).unwrap();
+        let (mut state, _) = State::start(&key, 2, u64::MAX, 40, 0xff).unwrap();
         assert_eq!(state.change(40, b"a", b"b"), Err(Refusal::OutOfFile));
         assert_eq!(state.change(0, b"a", b""), Err(Refusal::UnequalPair));
         assert_eq!(state.prepend(b"a"), Err(Refusal::BrokenBlock));
         assert_eq!(state.seal(&mut [0; 35]), Err(Refusal::OutputLength));
         assert_eq!(state.seal(&mut [0; 36]), Err(Refusal::NumbersUsed));
         assert_eq!(state.check(&[0; 36]), Err(Refusal::SlipVersion));
-        let of = |record: &[u8]| State::start(&key, 2, 3, 40).unwrap().replay(record).refusal;
+        let mut of = |record: &[u8]| state.replay(record).refusal;
         assert_eq!(of(&[0; 11]), Some(Refusal::JournalLength));
         assert_eq!(of(&[0; 12]), Some(Refusal::RecordKind));
         assert_eq!(
@@ -519,11 +542,25 @@ mod tests {
         assert_eq!(decrypt(b"cell 3", &tag[..12]), short);
     }
 
+    /// The state is that of the bytes, read. With two blocks before the last,
+    /// 10 in binary, its sum counts 2 and 3.
+    #[test]
+    fn a_blank_file_is_its_fill() {
+        for (fill, expected) in [(0, 0), (1, 5), (0xff, 5)] {
+            let (started, count) = State::start(&[1; 16], 2, 3, 40, fill).unwrap();
+            let read = State::read(&[1; 16], 2, 3, &[fill; 40]).unwrap();
+            assert_eq!(started.as_bytes(), read.as_bytes(), "fill {fill}");
+            assert_eq!(count, expected, "fill {fill}");
+        }
+        let (empty, count) = State::start(&[1; 16], 2, 3, 0, 0xff).unwrap();
+        assert_eq!((empty.length(), count), (0, 0));
+    }
+
     /// A replay keeps what was done before the refused record.
     #[test]
     fn a_replay_stops_at_a_refused_record() {
         let [mut replayed, mut single] =
-            [(); 2].map(|()| State::start(&[1; 16], 2, 3, 40).unwrap());
+            [(); 2].map(|()| State::read(&[1; 16], 2, 3, &[0xff; 40]).unwrap());
         let append = b"\x40\0\0\0\0\0\0\0\0\0\0\x03abc";
         let change = b"\x20\0\0\0\0\0\0\x28\0\0\0\x02abAB";
         let prepend = b"\x60\0\0\0\0\0\0\0\0\0\0\x01a";
@@ -539,7 +576,7 @@ mod tests {
 
     #[test]
     fn public_fields_are_shown_and_secret_ones_are_not() {
-        let state = State::start(&[0x77; 16], 5, 6, 40).unwrap();
+        let state = State::read(&[0x77; 16], 5, 6, &[0xff; 40]).unwrap();
         let shown = format!("{state:?}");
         assert_eq!(shown, "State { length: 40, arm: 5, last: 6, .. }");
     }

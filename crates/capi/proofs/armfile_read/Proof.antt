@@ -1,7 +1,7 @@
 -- `capi::armfile_read` meets its contract. It is `State::read`, kept where it is accepted (`CallLaws`).
 use borrow.Author.Needs.{needs}
 use Rattle.capi.specs.Calls.{readCall}
-use Rattle.capi.proofs.CallLaws.{begin-call}
+use Rattle.capi.proofs.CallLaws.{read-call}
 use Rattle.capi.proofs.armfile_read.Statement.{statement}
 use Rattle.capi.proofs.armfile_read.Tie as tie
 
@@ -13,7 +13,7 @@ keep-requires c κs = search needs
 
 returns : tie.Need-returns
 unfolding readCall
-returns c = begin-call _ _ (c .before .before .before .read .ensures) (c .keep .ensures)
+returns c = read-call _ _ (c .before .before .before .read .ensures) (c .keep .ensures)
 
 pub armfile-read-spec : {M : Type 1} → statement M
 armfile-read-spec = tie.close (tie.spec read-requires keep-requires returns)

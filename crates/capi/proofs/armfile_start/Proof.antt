@@ -1,7 +1,6 @@
 -- `capi::armfile_start` meets its contract. It is `State::start`, kept where it is accepted (`CallLaws`).
 use borrow.Author.Needs.{needs}
-use Rattle.capi.specs.Calls.{startCall}
-use Rattle.capi.proofs.CallLaws.{begin-call}
+use Rattle.capi.proofs.CallLaws.{start-call}
 use Rattle.capi.proofs.armfile_start.Statement.{statement}
 use Rattle.capi.proofs.armfile_start.Tie as tie
 
@@ -12,8 +11,7 @@ keep-requires : tie.Need-keep-requires
 keep-requires c κs = search needs
 
 returns : tie.Need-returns
-unfolding startCall
-returns c = begin-call _ _ (c .before .before .before .start .ensures) (c .keep .ensures)
+returns c = start-call _ _ _ (c .before .before .before .start .ensures) (c .keep .ensures)
 
 pub armfile-start-spec : {M : Type 1} → statement M
 armfile-start-spec = tie.close (tie.spec start-requires keep-requires returns)

@@ -27,9 +27,14 @@ macro_rules! made {
             Call::GcmDecrypt { message: m, tag } => {
                 $module::gcm_decrypt(&m.key, &m.nonce, &m.aad, &m.text, out, tag)
             }
-            Call::Start { key, arm, last, n } => {
-                <$state>::start(key, *arm, *last, *n).map(|state| $held = state)
-            }
+            Call::Start {
+                key,
+                arm,
+                last,
+                n,
+                fill,
+            } => <$state>::start(key, *arm, *last, *n, *fill)
+                .map(|started| ($held, $after.count) = started),
             Call::Read {
                 key,
                 arm,
@@ -98,6 +103,7 @@ pub enum Call {
         arm: u32,
         last: u64,
         n: u64,
+        fill: u8,
     },
     Read {
         key: Vec<u8>,
@@ -196,8 +202,19 @@ impl Call {
                 let inputs = [&message.inputs()[..], &[("tag", tag)]].concat();
                 ("gcm_decrypt", inputs, vec![])
             }
-            Call::Start { key, arm, last, n } => {
-                let numbers = vec![("arm", (*arm).into()), ("last", *last), ("n", *n)];
+            Call::Start {
+                key,
+                arm,
+                last,
+                n,
+                fill,
+            } => {
+                let numbers = vec![
+                    ("arm", (*arm).into()),
+                    ("last", *last),
+                    ("n", *n),
+                    ("fill", (*fill).into()),
+                ];
                 ("start", vec![("key", &key[..])], numbers)
             }
             Call::Read {
@@ -258,7 +275,9 @@ impl Call {
             Call::GcmDecrypt { .. } => {
                 ffi::gcm_decrypt(input(0), input(1), input(2), input(3), out, input(4))
             }
-            Call::Start { arm, last, n, .. } => ffi::start(input(0), *arm, *last, *n, state),
+            Call::Start {
+                arm, last, n, fill, ..
+            } => ffi::start(input(0), *arm, *last, *n, *fill, state, count),
             Call::Read { arm, last, .. } => ffi::read(input(0), *arm, *last, input(1), state),
             Call::Change { p, .. } => ffi::change(state, *p, input(0), input(1), count),
             Call::Append { .. } => ffi::append(state, input(0), count),

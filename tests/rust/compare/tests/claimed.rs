@@ -383,12 +383,13 @@ fn states() {
                 // SAFETY: what is claimed is on the forbidden page.
                 unsafe { c::armfile_read(k, key, 1, 2, file, length, state) }
             });
-            if expected.is_err() {
-                let name = format!("start of a key of {key}, {length} bytes");
+            for fill in [0, 1, 0xff] {
+                let name = format!("start of a key of {key}, {length} bytes of {fill}");
                 expect(&name, expected, false, &Lent::of(7), |lent| {
-                    let (k, state) = (input(key), lent.state.as_mut_ptr());
+                    let (k, n) = (input(key), wide(length));
+                    let (state, count) = (lent.state.as_mut_ptr(), &mut lent.count);
                     // SAFETY: what is claimed is on the forbidden page.
-                    unsafe { c::armfile_start(k, key, 1, 2, wide(length), state) }
+                    unsafe { c::armfile_start(k, key, 1, 2, n, fill, state, count) }
                 });
             }
         }

@@ -63,7 +63,8 @@ fn counted(n: usize) {
     let read = State::read(&key, 5, 6, &bytes).expect("a state");
     let expected = state::State {
         s: sum(&h, &bytes),
-        ..state::State::start(&key, 5, 6, n as u64).expect("a state")
+        n: n as u64,
+        ..state::State::read(&key, 5, 6, &[]).expect("a state")
     };
     assert_eq!(read.as_bytes(), &expected.state_bytes(), "a file");
     replayed(&key, &bytes, &expected);
@@ -89,7 +90,7 @@ fn carried(key: &Block, first_counter: &Block, bytes: &[u8]) {
 fn replayed(key: &[u8], bytes: &[u8], expected: &state::State) {
     let mut journal = Edit::Append(bytes.to_vec()).pack();
     journal.push(0);
-    let mut held = State::start(key, 5, 6, 0).expect("a state");
+    let (mut held, _) = State::start(key, 5, 6, 0, 0xff).expect("a state");
     let m = block_count(expected.n);
     let outcome = Replayed {
         count: m + seek_steps(m) + 1,

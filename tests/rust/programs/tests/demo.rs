@@ -2,7 +2,11 @@
 //! holds the bytes themselves. The program is run, and its output held to
 //! crates/demo/stdout, by the toolchain's own check.
 
+use reference::blank;
 use reference::machine::Machine;
+
+/// What a byte of the blank card reads.
+const FILL: u8 = 0xff;
 
 fn hex(bytes: &[u8]) -> String {
     bytes.iter().map(|b| format!("{b:02x}")).collect()
@@ -25,9 +29,10 @@ fn replay(text: &mut String, name: &str, machine: &Machine, count: u64, stop: &s
 fn the_demo_prints_what_the_machine_says() {
     let key = b"a key for arm 7.";
     let mut text = String::new();
-    let mut machine = Machine::start(key, 7, 0, 40).unwrap();
-    step(&mut text, "start with 40 bytes", &machine, 0);
-    let count = machine.change(15, &[0; 3], b"new").unwrap();
+    let mut machine = Machine::start(key, 7, 0, 40, FILL).unwrap();
+    let count = blank::count(FILL, 40);
+    step(&mut text, "start with 40 bytes of FF", &machine, count);
+    let count = machine.change(15, &[FILL; 3], b"new").unwrap();
     step(&mut text, "change bytes 15 to 17", &machine, count);
     let count = machine.append(b"gripper A").unwrap();
     step(&mut text, "append 9 bytes", &machine, count);

@@ -1,5 +1,5 @@
 //! A plain second implementation of the arm file seal of document 01, and of
-//! document 02's edit journal, Q-1, and GCM, Q-2.
+//! document 02's edit journal, Q-1, GCM, Q-2, and fill bytes, Q-4.
 //!
 //! FIPS 197 decides for AES, NIST SP 800-38D for the field, GHASH, GMAC and
 //! GCM, and the two documents for everything else. Clear code is preferred to
@@ -8,6 +8,7 @@
 //! - `aes`: the cipher.
 //! - `field`: blocks and their arithmetic.
 //! - `ghash`: the running sum, GHASH and GMAC.
+//! - `blank`: the running sum of a blank file, and what it counts.
 //! - `gcm`: encryption and decryption of a text, over `aes` and `ghash`.
 //! - `bits`: numbers in bytes, packed most significant bit first.
 //! - `slip`: the 36 bytes of a slip.
@@ -21,6 +22,7 @@
 
 pub mod aes;
 pub mod bits;
+pub mod blank;
 pub mod calls;
 pub mod field;
 pub mod gcm;

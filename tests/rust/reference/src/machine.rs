@@ -22,8 +22,8 @@ pub struct Machine {
 }
 
 impl Machine {
-    /// Holds n zero bytes, so n must fit in memory. Refusals: 1, 2.
-    pub fn start(key: &[u8], arm: u32, last: u64, n: u64) -> Result<Machine, u64> {
+    /// Holds n fill bytes, so n must fit in memory. Refusals: 1, 2.
+    pub fn start(key: &[u8], arm: u32, last: u64, n: u64, fill: u8) -> Result<Machine, u64> {
         refuse(&[
             (key.len() != 16, NOT_SIXTEEN),
             (too_long(n.into()), TOO_LONG),
@@ -31,7 +31,7 @@ impl Machine {
         Ok(Machine {
             key: key.try_into().expect("16 bytes"),
             arm,
-            bytes: vec![0; n as usize],
+            bytes: vec![fill; n as usize],
             last,
         })
     }

@@ -54,6 +54,20 @@ impl Random {
         self.bytes(count)
     }
 
+    /// A fill byte: often FF or 0, otherwise any.
+    pub fn some_fill(&mut self) -> u8 {
+        match self.below(4) {
+            0 => 0,
+            1 => 0xff,
+            _ => self.number() as u8,
+        }
+    }
+
+    /// A file's length, of any width up to 61 bits.
+    pub fn some_length(&mut self) -> u64 {
+        self.number() >> (3 + self.below(61))
+    }
+
     /// Up to four blocks of bytes; once in ten some other count of bytes.
     pub fn some_blocks(&mut self) -> Vec<u8> {
         let mut count = 16 * self.below(5);

@@ -3,9 +3,11 @@
 //!
 //! Every call of a state whose n passes 2^61 - 1 is refused with 2 before all
 //! else; the refusals named at each call come after that one, in their order.
-//! A refused call alters nothing. An edit's answer is its count.
+//! A refused call alters nothing. An edit's answer is its count, and start's
+//! has its own beside the state.
 
 use crate::aes;
+use crate::blank;
 use crate::field::{add, companion, multiply, power, seek_steps, Block, ZERO};
 use crate::ghash::{block_count, blocks_of, first_counter, hash_key, pair_block, sum};
 use crate::refusal::{
@@ -30,8 +32,22 @@ pub struct State {
 }
 
 impl State {
-    /// A file of n zero bytes. Refusals: 1, 2.
-    pub fn start(key: &[u8], arm: u32, last: u64, n: u64) -> Result<State, u64> {
+    /// A file of n fill bytes, and the count of its sum. Refusals: 1, 2.
+    pub fn start(key: &[u8], arm: u32, last: u64, n: u64, fill: u8) -> Result<(State, u64), u64> {
+        let mut state = State::begin(key, arm, last, n)?;
+        state.s = blank::sum(&state.h, fill, n);
+        Ok((state, blank::count(fill, n)))
+    }
+
+    /// A lent file. Refusals: 1, 2.
+    pub fn read(key: &[u8], arm: u32, last: u64, file: &[u8]) -> Result<State, u64> {
+        let mut state = State::begin(key, arm, last, file.len() as u64)?;
+        state.s = sum(&state.h, &blocks_of(file));
+        Ok(state)
+    }
+
+    /// A file of n bytes whose sum is still to come. Refusals: 1, 2.
+    fn begin(key: &[u8], arm: u32, last: u64, n: u64) -> Result<State, u64> {
         refuse(&[
             (key.len() != 16, NOT_SIXTEEN),
             (too_long(n.into()), TOO_LONG),
@@ -47,13 +63,6 @@ impl State {
             arm,
             last,
         })
-    }
-
-    /// A lent file. Refusals: 1, 2.
-    pub fn read(key: &[u8], arm: u32, last: u64, file: &[u8]) -> Result<State, u64> {
-        let mut state = State::start(key, arm, last, file.len() as u64)?;
-        state.s = sum(&state.h, &blocks_of(file));
-        Ok(state)
     }
 
     /// Bytes p to p + l - 1, once old, become new. Refusals: 4, 3.

@@ -8,9 +8,9 @@ use reference::{Machine, Slip, State};
 
 const KEY: [u8; 16] = *b"a key for a test";
 
-fn zeros(count: usize) -> Vec<u8> {
-    vec![0; count]
-}
+/// What files begin with here. Edits of a blank file answer the same whatever
+/// the fill is.
+const FILLS: [u8; 2] = [0, 0xff];
 
 /// A block whose bytes are zero but for the given ones.
 fn block(bytes: &[(usize, u8)]) -> Block {
@@ -22,38 +22,49 @@ fn block(bytes: &[(usize, u8)]) -> Block {
 }
 
 /// The answers of one edit by the controller and by the machine, both begun
-/// with 40 zero bytes; they must be the same.
+/// with 40 bytes of each fill; they must be the same. The edit is given its old
+/// or removed bytes, `named` of them.
 fn of_forty(
-    by_state: impl Fn(&mut State) -> Result<u64, u64>,
-    by_machine: impl Fn(&mut Machine) -> Result<u64, u64>,
+    named: usize,
+    by_state: impl Fn(&mut State, &[u8]) -> Result<u64, u64>,
+    by_machine: impl Fn(&mut Machine, &[u8]) -> Result<u64, u64>,
 ) -> Result<u64, u64> {
-    let mut state = State::start(&KEY, 7, 0, 40).unwrap();
-    let mut machine = Machine::start(&KEY, 7, 0, 40).unwrap();
-    let answer = by_state(&mut state);
-    assert_eq!(by_machine(&mut machine), answer);
-    assert_eq!(state.n, machine.n());
-    assert_eq!(state.s, machine.sum());
+    let [answer, other] = FILLS.map(|fill| {
+        let (mut state, _) = State::start(&KEY, 7, 0, 40, fill).unwrap();
+        let mut machine = Machine::start(&KEY, 7, 0, 40, fill).unwrap();
+        let bytes = vec![fill; named];
+        let answer = by_state(&mut state, &bytes);
+        assert_eq!(by_machine(&mut machine, &bytes), answer);
+        assert_eq!(state.n, machine.n());
+        assert_eq!(state.s, machine.sum());
+        answer
+    });
+    assert_eq!(answer, other);
     answer
 }
 
-fn change_of_forty(p: u64, old: &[u8], new: &[u8]) -> Result<u64, u64> {
-    of_forty(|s| s.change(p, old, new), |m| m.change(p, old, new))
+fn change_of_forty(p: u64, named: usize, new: &[u8]) -> Result<u64, u64> {
+    of_forty(
+        named,
+        |s, old| s.change(p, old, new),
+        |m, old| m.change(p, old, new),
+    )
 }
 
 fn append_to_forty(bytes: &[u8]) -> Result<u64, u64> {
-    of_forty(|s| s.append(bytes), |m| m.append(bytes))
+    of_forty(0, |s, _| s.append(bytes), |m, _| m.append(bytes))
 }
 
 fn prepend_to_forty(bytes: &[u8]) -> Result<u64, u64> {
-    of_forty(|s| s.prepend(bytes), |m| m.prepend(bytes))
+    of_forty(0, |s, _| s.prepend(bytes), |m, _| m.prepend(bytes))
 }
 
 fn drop_of_forty(l: usize) -> Result<u64, u64> {
-    of_forty(|s| s.drop_front(&zeros(l)), |m| m.drop_front(&zeros(l)))
+    of_forty(l, State::drop_front, Machine::drop_front)
 }
 
 fn cut_of_forty(l: usize) -> Result<u64, u64> {
-    of_forty(|s| s.cut_tail(&zeros(l)), |m| m.cut_tail(&zeros(l)))
+    of_forty(l, State::cut_tail, Machine::cut_tail)
 }
 
 #[test]
@@ -103,8 +114,8 @@ fn seek_step_counts() {
 
 #[test]
 fn change_counts() {
-    assert_eq!(change_of_forty(17, &[0], &[9]), Ok(3));
-    assert_eq!(change_of_forty(15, &[0, 0], &[9, 8]), Ok(4));
+    assert_eq!(change_of_forty(17, 1, &[9]), Ok(3));
+    assert_eq!(change_of_forty(15, 2, &[9, 8]), Ok(4));
 }
 
 #[test]
@@ -129,21 +140,23 @@ fn cut_tail_counts() {
 #[test]
 fn slip_beginning() {
     let beginning = [0x20, 0, 0, 0, 0, 0, 0, 0x28, 0, 0, 0, 7];
-    let mut slip = [0; 36];
-    let mut state = State::start(&KEY, 7, 0, 40).unwrap();
-    assert_eq!(state.seal(&mut slip), Ok(()));
-    assert_eq!(slip[..12], beginning);
-    assert_eq!(slip[12..20], [0, 0, 0, 0, 0, 0, 0, 1]);
-    let opened = Slip::open(&slip).unwrap();
-    assert_eq!((opened.length, opened.arm, opened.number), (40, 7, 1));
-    assert_eq!(opened.tag, gmac(&KEY, &slip[8..20], &zeros(40)));
-    assert_eq!(state.check(&slip), Ok(true));
+    for fill in FILLS {
+        let mut slip = [0; 36];
+        let (mut state, _) = State::start(&KEY, 7, 0, 40, fill).unwrap();
+        assert_eq!(state.seal(&mut slip), Ok(()));
+        assert_eq!(slip[..12], beginning);
+        assert_eq!(slip[12..20], [0, 0, 0, 0, 0, 0, 0, 1]);
+        let opened = Slip::open(&slip).unwrap();
+        assert_eq!((opened.length, opened.arm, opened.number), (40, 7, 1));
+        assert_eq!(opened.tag, gmac(&KEY, &slip[8..20], &[fill; 40]));
+        assert_eq!(state.check(&slip), Ok(true));
+    }
 }
 
 #[test]
 fn change_of_no_bytes_at_the_end() {
-    assert_eq!(change_of_forty(40, &[], &[]), Ok(0));
-    assert_eq!(change_of_forty(41, &[], &[]), Err(3));
+    assert_eq!(change_of_forty(40, 0, &[]), Ok(0));
+    assert_eq!(change_of_forty(41, 0, &[]), Err(3));
 }
 
 #[test]
@@ -153,24 +166,27 @@ fn prepend_of_15() {
 
 #[test]
 fn start_at_the_limit() {
-    assert_eq!(State::start(&KEY, 7, 0, 1 << 61), Err(2));
-    assert_eq!(Machine::start(&KEY, 7, 0, 1 << 61), Err(2));
-    let state = State::start(&KEY, 7, 0, MAX_BYTES).unwrap();
-    assert_eq!(state.n, (1 << 61) - 1);
-    assert_eq!(state.s, ZERO);
+    for (fill, expected) in FILLS.into_iter().zip([0, 227]) {
+        assert_eq!(State::start(&KEY, 7, 0, 1 << 61, fill), Err(2));
+        assert_eq!(Machine::start(&KEY, 7, 0, 1 << 61, fill), Err(2));
+        let (state, count) = State::start(&KEY, 7, 0, MAX_BYTES, fill).unwrap();
+        assert_eq!(state.n, (1 << 61) - 1);
+        assert_eq!(state.s == ZERO, fill == 0);
+        assert_eq!(count, expected);
+    }
 }
 
 #[test]
 fn unequal_pair_past_the_end() {
-    assert_eq!(change_of_forty(41, &[0], &[0, 0]), Err(4));
-    assert_eq!(change_of_forty(u64::MAX, &[0, 0], &[0]), Err(4));
-    assert_eq!(change_of_forty(u64::MAX, &[0], &[0]), Err(3));
+    assert_eq!(change_of_forty(41, 1, &[0, 0]), Err(4));
+    assert_eq!(change_of_forty(u64::MAX, 2, &[0]), Err(4));
+    assert_eq!(change_of_forty(u64::MAX, 1, &[0]), Err(3));
 }
 
 #[test]
 fn last_number_seals_once() {
-    let mut state = State::start(&KEY, 7, u64::MAX - 1, 40).unwrap();
-    let mut machine = Machine::start(&KEY, 7, u64::MAX - 1, 40).unwrap();
+    let (mut state, _) = State::start(&KEY, 7, u64::MAX - 1, 40, 0xff).unwrap();
+    let mut machine = Machine::start(&KEY, 7, u64::MAX - 1, 40, 0xff).unwrap();
     let mut slips = [[0; 36]; 2];
     assert_eq!(state.seal(&mut slips[0]), Ok(()));
     assert_eq!(machine.seal(&mut slips[1]), Ok(()));

@@ -126,7 +126,8 @@ fn opposite_edits_near_the_limit() {
     let mut random = Random::for_test(35);
     for _ in 0..100 {
         let n = MAX_BYTES - 200 - random.below(1000);
-        let start = State::start(&random.block(), 1, 2, n).unwrap();
+        let fill = random.some_fill();
+        let (start, _) = State::start(&random.block(), 1, 2, n, fill).unwrap();
         let mut state = start;
         let bytes = random.bytes(48);
         let within = |count: u64| assert!(count <= 4 + 2 * 58);
@@ -138,8 +139,8 @@ fn opposite_edits_near_the_limit() {
         within(state.drop_front(&bytes).unwrap());
         assert_eq!(state, start);
         let p = random.below(n - 48);
-        within(state.change(p, &[0; 48], &bytes).unwrap());
-        within(state.change(p, &bytes, &[0; 48]).unwrap());
+        within(state.change(p, &[fill; 48], &bytes).unwrap());
+        within(state.change(p, &bytes, &[fill; 48]).unwrap());
         assert_eq!(state, start);
     }
 }
@@ -154,9 +155,10 @@ fn change_weighs_the_blocks_after_it() {
         let n = MAX_BYTES - random.below(100);
         let p = 16 * random.below(n / 16 - 1);
         let bytes = random.bytes(16);
-        let mut changed = State::start(&key, 1, 2, n).unwrap();
+        let zeros = |n| State::start(&key, 1, 2, n, 0).unwrap().0;
+        let mut changed = zeros(n);
         let count = changed.change(p, &[0; 16], &bytes);
-        let mut prepended = State::start(&key, 1, 2, n - p - 16).unwrap();
+        let mut prepended = zeros(n - p - 16);
         assert_eq!(prepended.prepend(&bytes), count);
         assert_eq!(changed.s, prepended.s);
     }

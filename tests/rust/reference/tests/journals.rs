@@ -19,7 +19,7 @@ const BY_HAND: [&[u8]; 4] = [
 ];
 
 fn of_forty() -> State {
-    State::start(&KEY, 7, 0, 40).unwrap()
+    State::start(&KEY, 7, 0, 40, 0).unwrap().0
 }
 
 #[test]
@@ -98,7 +98,7 @@ fn at_the_limit() {
         assert_eq!(past.replay(&journal), expected);
         assert_eq!(past, before);
     }
-    let mut full = State::start(&KEY, 7, 0, MAX_BYTES - 8).unwrap();
+    let (mut full, _) = State::start(&KEY, 7, 0, MAX_BYTES - 8, 0xff).unwrap();
     let replayed = full.replay(&[BY_HAND[1], BY_HAND[1]].concat());
     assert_eq!((replayed.offset, replayed.refusal), (20, Some(2)));
     assert_eq!(full.n, MAX_BYTES);

@@ -16,13 +16,14 @@ struct Pair {
 }
 
 impl Pair {
+    /// A blank file, of any fill.
     fn start(random: &mut Random, last: u64) -> Pair {
         let key = random.block();
         let arm = random.number() as u32;
-        let n = random.below(120);
+        let (n, fill) = (random.below(120), random.some_fill());
         Pair::of(
-            State::start(&key, arm, last, n).unwrap(),
-            Machine::start(&key, arm, last, n).unwrap(),
+            State::start(&key, arm, last, n, fill).unwrap().0,
+            Machine::start(&key, arm, last, n, fill).unwrap(),
         )
     }
 

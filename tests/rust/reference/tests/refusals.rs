@@ -116,12 +116,14 @@ fn start_and_read_refuse_1_then_2() {
         let key = vec![1; size];
         for n in LENGTHS {
             let expected = first_of(&[(size != 16, 1), (n > MAX_BYTES, 2)]);
-            assert_eq!(number(State::start(&key, 3, 4, n)), expected);
+            for fill in 0..=255 {
+                assert_eq!(number(State::start(&key, 3, 4, n, fill)), expected);
+            }
         }
         let expected = first_of(&[(size != 16, 1)]);
         assert_eq!(number(State::read(&key, 3, 4, b"a file")), expected);
         assert_eq!(number(Machine::read(&key, 3, 4, b"a file")), expected);
-        assert_eq!(number(Machine::start(&key, 3, 4, 40)), expected);
+        assert_eq!(number(Machine::start(&key, 3, 4, 40, 0xff)), expected);
     }
 }
 
@@ -129,7 +131,7 @@ fn start_and_read_refuse_1_then_2() {
 #[test]
 fn a_state_past_the_limit_is_refused_before_all_else() {
     for n in [MAX_BYTES + 1, MAX_BYTES + 2, u64::MAX] {
-        let mut state = State::start(&KEY, 7, u64::MAX, 0).unwrap();
+        let mut state = State::read(&KEY, 7, u64::MAX, &[]).unwrap();
         state.n = n;
         let before = state;
         for size in [0, 1, 15, 16, 36] {
@@ -155,7 +157,7 @@ fn a_state_past_the_limit_is_refused_before_all_else() {
 fn edits_near_the_limit() {
     for short in 0..40 {
         let n = MAX_BYTES - short;
-        let state = State::start(&KEY, 7, 0, n).unwrap();
+        let (state, _) = State::start(&KEY, 7, 0, n, 0xff).unwrap();
         for l in 0..50_u64 {
             let bytes = vec![1; l as usize];
             let grows = n as u128 + l as u128;
@@ -202,7 +204,7 @@ fn edited(
 /// Prepend 5 before 2, drop-front 5 before 3, seal 7 before 6.
 #[test]
 fn orders_of_two_causes() {
-    let mut full = State::start(&KEY, 7, u64::MAX, MAX_BYTES).unwrap();
+    let (mut full, _) = State::start(&KEY, 7, u64::MAX, MAX_BYTES, 0xff).unwrap();
     assert_eq!(full.prepend(&[0; 17]), Err(5));
     assert_eq!(full.prepend(&[0; 16]), Err(2));
     assert_eq!(full.append(&[0]), Err(2));
@@ -210,7 +212,7 @@ fn orders_of_two_causes() {
     assert_eq!(full.prepend(&[]), Ok(0));
     assert_eq!(full.seal(&mut [0; 35]), Err(7));
     assert_eq!(full.seal(&mut [0; 36]), Err(6));
-    let mut short = State::start(&KEY, 7, 0, 10).unwrap();
+    let (mut short, _) = State::start(&KEY, 7, 0, 10, 0xff).unwrap();
     assert_eq!(short.drop_front(&[0; 15]), Err(5));
     assert_eq!(short.drop_front(&[0; 16]), Err(3));
     assert_eq!(short.cut_tail(&[0; 11]), Err(3));

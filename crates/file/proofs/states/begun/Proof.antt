@@ -7,11 +7,8 @@ use Rattle.file.proofs.states.begun.Tie as tie
 companion-requires : tie.Need-companion-requires
 companion-requires c κs = search needs
 
-none-requires : tie.Need-none-requires
-none-requires c κs = search needs
-
 returns : tie.Need-returns
-returns c = begun-state _ _ _ _ _ (c .before .before .pre) (c .before .companion .ensures) (c .none .ensures)
+returns c = begun-state _ _ _ _ _ _ (c .before .before .before .pre) (c .companion .ensures)
 
 pub begun-spec : {M : Type 1} → statement M
-begun-spec = tie.close (tie.spec companion-requires none-requires returns)
+begun-spec = tie.close (tie.spec companion-requires returns)

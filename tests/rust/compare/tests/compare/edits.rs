@@ -130,7 +130,7 @@ pub fn near_the_limit(case: &mut Case) {
     let state = State {
         n,
         s: case.random.block(),
-        ..State::start(&case.random.block(), 7, u64::MAX - 1, 0).expect("a state")
+        ..State::read(&case.random.block(), 7, u64::MAX - 1, &[]).expect("a state")
     };
     let mut lent = Lent::new();
     lent.state = state.state_bytes();

@@ -101,6 +101,7 @@ pub fn on_a_long_file(case: &mut Case) {
         arm: 3,
         last: 4,
         n: MAX_BYTES - case.random.below(200),
+        fill: case.random.some_fill(),
     };
     assert_eq!(case.call(&start, &mut before), 0);
     let edits = some_edits(case, &before, None);

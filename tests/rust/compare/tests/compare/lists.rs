@@ -22,7 +22,7 @@ struct List {
 }
 
 impl List {
-    /// A list that begins with an accepted start, or with a read.
+    /// A list that begins with an accepted start, of any fill, or with a read.
     fn begin(case: &mut Case, read: bool) -> List {
         let random = &mut case.random;
         let key = random.bytes(16);
@@ -44,8 +44,16 @@ impl List {
             };
             (call, machine)
         } else {
-            let machine = Machine::start(&key, arm, last, n);
-            (Call::Start { key, arm, last, n }, machine)
+            let fill = random.some_fill();
+            let machine = Machine::start(&key, arm, last, n, fill);
+            let call = Call::Start {
+                key,
+                arm,
+                last,
+                n,
+                fill,
+            };
+            (call, machine)
         };
         let mut lent = Lent::new();
         assert_eq!(case.call(&call, &mut lent), 0, "{call}");
@@ -240,6 +248,7 @@ pub fn on_a_long_file(case: &mut Case) {
         arm: case.random.number() as u32,
         last: u64::MAX - case.random.below(10),
         n: MAX_BYTES - case.random.below(200),
+        fill: case.random.some_fill(),
     };
     assert_eq!(case.call(&call, &mut lent), 0, "{call}");
     for _ in 0..CALLS {

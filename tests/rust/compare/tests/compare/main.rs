@@ -3,6 +3,7 @@
 
 #![forbid(unsafe_code)]
 
+mod blanks;
 mod blocks;
 mod choose;
 mod edits;
@@ -67,6 +68,15 @@ const PARTS: &[Part] = &[
     ("whole inputs of every length", 1_100, wholes::every_length),
     ("batches of single bits", 130, wholes::plain_batches),
     ("batches of ones", 5, wholes::ones),
+    ("blank files of every length", 1_100, blanks::every_length),
+    ("blank files of every fill", 256, blanks::every_fill),
+    ("blank files of some MiB", 9, blanks::some_mebibytes),
+    (
+        "blank files around powers of two",
+        61,
+        blanks::powers_of_two,
+    ),
+    ("blank files of any length", 600, blanks::any_length),
 ];
 
 fn main() {

@@ -117,6 +117,7 @@ pub fn last_numbers(case: &mut Case) {
         arm: 1,
         last: u64::MAX - left,
         n: case.random.below(100),
+        fill: case.random.some_fill(),
     };
     assert_eq!(case.call(&call, &mut lent), 0);
     for seal in 0..left + 3 {

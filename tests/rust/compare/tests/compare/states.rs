@@ -14,16 +14,24 @@ fn random_lent(case: &mut Case) -> Lent {
     lent
 }
 
-/// Keys of the case's size, with arms, numbers and lengths at their ends.
+/// Keys of the case's size, with arms, numbers and lengths at their ends, and
+/// with several fills.
 pub fn start(case: &mut Case) {
     let size = SIZES[case.index() as usize];
     for arm in ARMS {
         for last in NUMBERS {
             for n in FILE_LENGTHS {
-                let mut lent = random_lent(case);
-                let key = case.random.bytes(size);
-                let call = Call::Start { key, arm, last, n };
-                case.call(&call, &mut lent);
+                for fill in [0, 0xff, case.random.some_fill()] {
+                    let mut lent = random_lent(case);
+                    let call = Call::Start {
+                        key: case.random.bytes(size),
+                        arm,
+                        last,
+                        n,
+                        fill,
+                    };
+                    case.call(&call, &mut lent);
+                }
             }
         }
     }

@@ -1,7 +1,9 @@
 -- `file::states::State::read` meets its contract. Each return by its own law (`StateReturns`).
 use borrow.Author.Needs.{needs}
+use Rattle.field.specs.declared.blocks.Block.{Block}
+use Rattle.field.specs.Field.{sum}
 use Rattle.file.specs.States.{readFile}
-use Rattle.file.proofs.StateReturns.{begins, begin-refused, begin-passed, begin-done, read-state}
+use Rattle.file.proofs.StateReturns.{begins, begin-refused, begin-passed, begin-done, made-state}
 use Rattle.file.proofs.states.State.read.Statement.{statement}
 use Rattle.file.proofs.states.State.read.Tie as tie
 
@@ -18,7 +20,7 @@ returns : tie.Need-returns
 unfolding readFile
 returns c =
     let told = c .before .before .before .before .begin-refusal .ensures in
-    begin-refused _ _ _ told _ (c .before .before .answer .given .1) (c .refused .ensures)
+    begin-refused _ _ _ told _ _ (c .before .before .answer .given .1) (c .refused .ensures)
 
 enum-told : tie.Need-enum-told
 enum-told c = search needs
@@ -32,16 +34,22 @@ hash-key-requires c κs = search needs
 sum-requires : tie.Need-sum-requires
 sum-requires c κs = search needs
 
+none-requires : tie.Need-none-requires
+none-requires c κs = search needs
+
 begun-requires : tie.Need-begun-requires
 begun-requires c κs = search needs
 
 returns-2 : tie.Need-returns-2
 unfolding readFile
 returns-2 c =
-    let key = c .before .before .before in
+    let none = c .before in
+    let value = none .before in
+    let key = value .before .before in
     let done = key .before in
     begin-done _ _ _ (done .before .before .begin-refusal .ensures) (done .enum-told .given .1) (c .begun .ensures)
-    (read-state _ _ (key .from-bytes .ensures) (c .before .before .hash-key .ensures) (c .before .sum .ensures))
+    (made-state (λ (h : Block). sum h (done .before .before .before .before .before .args .file .now)) _ _ _ _ _ (key .from-bytes .ensures) (value .before .hash-key .ensures) (value .sum .ensures))
+    (none .none .ensures)
 
 pub read-spec : {M : Type 1} → statement M
 read-spec =
@@ -55,5 +63,6 @@ read-spec =
     from-bytes-requires
     hash-key-requires
     sum-requires
+    none-requires
     begun-requires
     returns-2)
