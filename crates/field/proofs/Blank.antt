@@ -148,7 +148,7 @@ blank-done h fill n m count {g} {u} {v} {w} {f} {l} {z} a b em eg ef eu ev el ez
     let raised : Counted → ℕ = λ c. c .count .raised in
     let all : v .count .raised + 1 ≡ count + (seriesSteps (m - 1) + 3) = omega (arith, ap raised eg, ap raised eu, ap raised ev) in
     let last : l ≡ lastBlock fill n = el ∙ rw em (last-block fill n (omega arith)) in
-    let sum : z ≡ fillBlock fill • h • series h (m - 1) ⊕ lastBlock fill n =
-    ez ∙ ap₂ _⊕_ (ap value ev ∙ ap₂ _•_ (ap value eu ∙ ap (λ (x : Block). x • h) ef) (ap value eg)) last
-    in
-    rw (unfilled-false fill n a b, ← em) (ew ∙ ap₂ (λ (x : Block) (c : ℕ). counted (h • x) c) sum all)
+    let fh : u .value ≡ fillBlock fill • h = ap value eu ∙ ap (λ (x : Block). x • h) ef in
+    let fhg : v .value ≡ fillBlock fill • h • series h (m - 1) = ap value ev ∙ ap₂ _•_ fh (ap value eg) in
+    rw (unfilled-false fill n a b, ← em)
+    (ew ∙ ap₂ (λ (x : Block) (c : ℕ). counted (h • x) c) (ez ∙ ap₂ _⊕_ fhg last) all)

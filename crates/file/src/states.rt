@@ -87,7 +87,7 @@ fn begin_refusal(key: &[u8], n: u64) -> Answer
     Answer::Done
 }
 
-// An accepted start or read: the state of a key with its hash key, and of a file's sum, which took a count of products, and length.
+// An accepted start or read: the state of a key with its hash key, and of a file's sum and length; the count is of the sum's products.
 fn begun(key: Key, h: Block, sum: Counted, n: u64, arm: u32, last: u64) -> Answered
     requires { ⌜ h ≡ hashKey (key .bytes) ⌝ }
     ensures { λ x. ⌜ stateAnswer x ≡ acceptedWith (stateOf (key .bytes) (sum .value) n arm last) (sum .count .raised) ⌝ }

@@ -47,8 +47,9 @@ returns-2 c =
     let value = none .before in
     let key = value .before .before in
     let done = key .before in
+    let a = done .before .before .before .before .before .args in
     begin-done _ _ _ (done .before .before .begin-refusal .ensures) (done .enum-told .given .1) (c .begun .ensures)
-    (made-state (λ (h : Block). sum h (done .before .before .before .before .before .args .file .now)) _ _ _ _ _ (key .from-bytes .ensures) (value .before .hash-key .ensures) (value .sum .ensures))
+    (made-state (λ (h : Block). sum h (a .file .now)) _ _ _ _ _ (key .from-bytes .ensures) (value .before .hash-key .ensures) (value .sum .ensures))
     (none .none .ensures)
 
 pub read-spec : {M : Type 1} → statement M

@@ -56,7 +56,8 @@ returns-2 c =
     let value : Counted → Block = λ x. x .value in
     let raised : Counted → ℕ = λ x. x .count .raised in
     begin-done _ _ _ (done .before .before .begin-refusal .ensures) (done .enum-told .given .1) (c .begun .ensures)
-    (made-state (λ (h : Block). blankSum h (a .fill) (a .n)) _ _ _ _ _ (key .from-bytes .ensures) (none .before .hash-key .ensures) (ap value (blank .blank-sum .ensures)))
+    (made-state (λ (h : Block). blankSum h (a .fill) (a .n)) _ _ _ _ _ (key .from-bytes .ensures) (none .before .hash-key .ensures)
+    (ap value (blank .blank-sum .ensures)))
     (ap raised (blank .blank-sum .ensures) ∙ ap (λ (x : ℕ). x + blankCount (a .fill) (a .n)) (none .none .ensures) ∙ zero-add _)
 
 pub start-spec : {M : Type 1} → statement M
