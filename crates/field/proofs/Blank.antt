@@ -21,12 +21,12 @@ use Rattle.field.specs.Sums.{blocks, sum}
 use Rattle.field.specs.Series.{series, seriesSteps, fillBlock, lastBlock, unfilled, blankSum, blankCount, BlankSum}
 use Rattle.field.specs.Ghash.{Yᵢ}
 use Rattle.field.specs.Contracts.{counted}
-use Rattle.field.proofs.Values.{words, zero-words}
+use Rattle.field.proofs.Values.{words}
 use Rattle.field.proofs.Ring.{•-⊕, ⊕-•, •-assoc, •-comm, •-zero, •-one, small-•}
 use Rattle.field.proofs.BlockAt.{blockAt-append-left, blockAt-append-right}
 use Rattle.field.proofs.Horner.{horner}
 use Rattle.field.proofs.Sums.{small-sum, sum-zeros}
-use Rattle.field.proofs.Series.{series-suc, series-steps-le}
+use Rattle.field.proofs.Series.{series-suc, series-steps-le, counted-none}
 
 -- ---- the blocks of fill bytes
 
@@ -129,7 +129,7 @@ pub blank-none : (h : Block) (fill n count : ℕ) → (n ≡ 0) ⊎ (fill ≡ 0)
     → counted (words 0 0) count ≡ counted (blankSum h fill n) (count + blankCount fill n)
 blank-none h fill n count e =
     let none = nothing h fill n e in
-    ap₂ counted (zero-words ∙ sym (none .0)) (sym (ap (_+_ count) (none .1) ∙ add-zero count))
+    counted-none count (blankCount fill n) (none .0) (none .1)
 
 -- behind the series g the running count has room for three products
 pub blank-room : (h : Block) (k count : ℕ) {g : Counted} → k < 2 ^ 64 → count + 256 < 2 ^ 64 → g ≡ counted (series h k) (count + seriesSteps k)

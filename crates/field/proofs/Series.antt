@@ -72,10 +72,14 @@ series-steps-le k h = omega (arith, leading-width 64 k h, ones-le-width k)
 
 -- ---- the loop
 
--- no power
+-- nothing is multiplied, where the sum x is zero and the count y is 0
+pub counted-none : (n y : ℕ) {x : Block} → x ≡ zeroBlock → y ≡ 0 → counted (words 0 0) n ≡ counted x (n + y)
+counted-none n y ex ey = ap₂ counted (zero-words ∙ sym ex) (sym (ap (_+_ n) ey ∙ add-zero n))
+
+-- so for no power
 pub series-none : (h : Block) (k n : ℕ) → k ≡ 0 → counted (words 0 0) n ≡ counted (series h k) (n + seriesSteps k)
 unfolding series
-series-none h k n e = rw e (ap₂ counted zero-words (omega (arith, series-steps-bit 0 (omega arith))))
+series-none h k n e = counted-none n (seriesSteps k) (ap (series h) e) (series-steps-bit k (omega arith))
 
 -- two counted products, u and then v, and x made of the first
 pub two-products : (f : Block → Block) (n : ℕ) {a b x : Block} {u v : Counted} → u ≡ counted a (n + 1) → v ≡ counted b (u .count .raised + 1)

@@ -77,7 +77,7 @@ unfolding blank
 holds-start s e r =
     let b = begun-start s e in
     subst (λ (st : State). Holds (s .key) (s .arm) st (blank s)) (sym (b .state))
-    (holds-made (s .key) _ (s .n) (s .arm) (blank s) (small-blank _ (s .fill) (s .n)) (sym (length-replicate (s .n) (s .fill))) (b .short) r)
+    (holds-made (s .key) _ (s .n) (s .arm) (blank s) (small-blank _ (s .fill) (s .n)) (sym (length-replicate (s .n) _)) (b .short) r)
 
 pub summed-start : (s : Start) → started s .refusal ≡ 0 → Summed (s .key) (started s .state) (blank s)
 unfolding blank stateOf
