@@ -106,7 +106,7 @@ static void own_seal(void) { refused |= armfile_seal(sealed, slip, sizeof slip);
 static void own_check(void)
 {
 	refused |= armfile_check(sealed, slip, sizeof slip, &verdict);
-	refused |= verdict != ARMFILE_GENUINE;
+	refused |= verdict != ARMFILE_CURRENT;
 }
 
 /* ---- BearSSL */

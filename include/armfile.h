@@ -7,9 +7,11 @@
  * with a blank one, which is a fill byte and a length. Five edits move that
  * state without reading the file, one by one or as a journal of them. A seal
  * writes a slip of 36 bytes whose tag is AES-128 GMAC of the whole file; a
- * check says whether a slip is genuine. A file that is to travel unread is
- * encrypted by AES-128 GCM, which needs no state. FIPS 197 decides for AES,
- * NIST SP 800-38D for the field, GHASH, GMAC and GCM.
+ * check says whether a slip is genuine and, if it is, whether it is current,
+ * stale or ahead: whether its seal number is the state's last used one, a
+ * smaller or a larger. A file that is to travel unread is encrypted by AES-128
+ * GCM, which needs no state. FIPS 197 decides for AES, NIST SP 800-38D for the
+ * field, GHASH, GMAC and GCM.
  *
  * The library is for x86-64 and needs no other library.
  *
@@ -53,16 +55,16 @@
  *
  * The code has no branch and no address that depends on a key, on a hash key,
  * on a running sum, on a file's bytes or on a text, but for one jump in
- * armfile_check on the verdict, and one in armfile_gcm_decrypt on whether the
- * tag fits; both are public once the call has answered. Two tags are compared
- * by one test of all their bits. The cipher has no table: it computes its
- * substitution by gates on bits. Time does depend on lengths, on places (p, n),
- * on a blank file's fill byte, on the arm number, on seal numbers, on a slip's
- * bytes outside its tag and on the heads of a journal's records; these are
- * taken for public. Blocks are multiplied by multiplications of integers, which
- * are taken to last the same whatever they multiply, as they do on x86-64. This
- * is observed of the compiled library (tests/ct), but for how long a
- * multiplication lasts, and is not part of what is proved.
+ * armfile_check and one in armfile_gcm_decrypt, each on whether the tag fits,
+ * which is public once the call has answered. Two tags are compared by one test
+ * of all their bits. The cipher has no table: it computes its substitution by
+ * gates on bits. Time does depend on lengths, on places (p, n), on a blank
+ * file's fill byte, on the arm number, on seal numbers, the last used one too,
+ * on a slip's bytes outside its tag and on the heads of a journal's records;
+ * these are taken for public. Blocks are multiplied by multiplications of
+ * integers, which are taken to last the same whatever they multiply, as they do
+ * on x86-64. This is observed of the compiled library (tests/ct), but for how
+ * long a multiplication lasts, and is not part of what is proved.
  *
  * STACK
  *
@@ -79,7 +81,7 @@
  *      armfile_ghash       12712   648      armfile_cut_tail    1080
  *      armfile_gmac        13384  1560      armfile_replay      1336
  *      armfile_gcm_encrypt 13272  3368      armfile_seal        1496
- *      armfile_gcm_decrypt 13256  3352      armfile_check       1352
+ *      armfile_gcm_decrypt 13256  3352      armfile_check       1432
  *      armfile_start        1368            armfile_length         8
  *      armfile_read        12872  1272      armfile_arm            8
  *      armfile_change       1080            armfile_last           8
@@ -151,7 +153,8 @@
  *
  * The state is secret: it holds the key. It may be copied and stored; a copy
  * that is used later repeats seal numbers, which breaks GMAC, so never go back
- * to an older copy after a seal. Wiping it is the caller's (WHAT TO WIPE).
+ * to an older copy after a seal. A slip that a check finds ahead is a sign of
+ * it (armfile_check()). Wiping it is the caller's (WHAT TO WIPE).
  * armfile_length(), armfile_arm() and armfile_last() read its public fields, so
  * that no caller needs this layout.
  *
@@ -215,10 +218,20 @@ extern "C" {
  */
 #define ARMFILE_SLIP_FORMAT 1
 
-/** \brief A check's verdict: the slip is not genuine. */
+/*
+ * Verdicts of a check. The last three together are what ARMFILE_GENUINE was.
+ * That name is gone, so that code which tested for it no longer compiles: most
+ * of it means ARMFILE_CURRENT. A verdict is no truth value (armfile_check()).
+ */
+
+/** \brief The slip is not genuine. */
 #define ARMFILE_NOT_GENUINE 0
-/** \brief A check's verdict: the slip is genuine. */
-#define ARMFILE_GENUINE 1
+/** \brief The slip is genuine, and its number is the state's last used one. */
+#define ARMFILE_CURRENT 1
+/** \brief The slip is genuine, and its number is smaller: an old slip. */
+#define ARMFILE_STALE 2
+/** \brief The slip is genuine, and its number is larger. */
+#define ARMFILE_AHEAD 3
 
 /*
  * Refusals. Where several apply, the one that a function's description lists
@@ -474,7 +487,8 @@ uint64_t armfile_gcm_decrypt(const uint8_t *key, size_t key_len,
  * \param last     the last used seal number: 0 for a new key, and for a key
  *                 that has sealed before, the highest number that any of its
  *                 seals on this arm carried. A number that is used twice
- *                 breaks GMAC. 2^64 - 1 is taken; a seal is then refused.
+ *                 breaks GMAC, and armfile_check() measures slips by this one.
+ *                 2^64 - 1 is taken; a seal is then refused.
  * \param n        the file's length in bytes, at most 2^61 - 1.
  * \param fill     the byte of which the file is n copies, 0 to 255; see TRUE
  *                 BYTES. It is taken for public, as n is (TIME).
@@ -723,11 +737,46 @@ uint64_t armfile_seal(uint8_t state[ARMFILE_STATE_BYTES],
 	uint8_t *slip, size_t slip_len);
 
 /**
- * \brief Says whether a slip is genuine.
+ * \brief Says whether a slip is genuine, and whether it is the newest.
  *
- * It is, exactly when its length is the file's, its arm is the state's and its
- * tag is the file's under the slip's own arm and seal number. The seal number
- * is not compared with the state's: an old slip of the same bytes is genuine.
+ * It is genuine exactly when its length is the file's, its arm is the state's
+ * and its tag is the file's under the slip's own arm and seal number. The
+ * verdict on a genuine slip then goes by its seal number beside the state's
+ * last used one, that of armfile_last():
+ *
+ *  - ARMFILE_NOT_GENUINE, 0: the slip is not genuine, whatever its number.
+ *  - ARMFILE_CURRENT, 1: it is genuine, and its number is the last used. No
+ *    other genuine slip is that of the newest seal.
+ *  - ARMFILE_STALE, 2: it is genuine, and its number is smaller.
+ *  - ARMFILE_AHEAD, 3: it is genuine, and its number is larger.
+ *
+ * Current, stale and ahead together are what genuine was when it was one
+ * verdict, ARMFILE_GENUINE.
+ *
+ * DO NOT TEST THE VERDICT FOR NON-ZERO OR FOR TRUE. Such a test was right when
+ * 1 was the only other verdict. It still compiles, and takes stale and ahead
+ * slips too: the arm is then content with an old card. Test
+ * `verdict == ARMFILE_CURRENT`, and lend no bool for the verdict's byte.
+ *
+ * A stale slip is, as a rule, that of an old card which was put back. As far as
+ * GMAC can tell, the bytes that were sealed are those of the file held, which
+ * has kept them or come back to them; but a later number was used since, and
+ * the slip is not the newest.
+ *
+ * A slip that is ahead was sealed, as far as GMAC can tell, with this key, for
+ * this arm and of these bytes, but this state has not come as far as its
+ * number: an older copy of the state was put back, another controller with the
+ * same key and arm sealed, or the state was begun with too small a `last`. Its
+ * next seals may then give numbers that were given before, and a number that is
+ * given twice is a nonce used twice under one key, which gives the hash key
+ * away. DO NOT GO ON SEALING WITH SUCH A STATE before its last used number is
+ * made right: make it anew, by armfile_read() or in pieces, with the highest
+ * number of all seals, that slip's at the least, for `last`.
+ *
+ * Who reads a file only to check its slip gives the true `last` too: with 0,
+ * every genuine slip that a seal wrote is ahead. A slip that was just sealed is
+ * current; after an edit, as a rule, no slip is until the next seal.
+ *
  * Refused with 2 where the state's length passes 2^61 - 1, then with 7 where
  * `slip_len` is not 36, then with 8 where the slip's version is not 1; the
  * verdict then stays as it was, so test the returned number first.
@@ -735,7 +784,8 @@ uint64_t armfile_seal(uint8_t state[ARMFILE_STATE_BYTES],
  * \param state     the state, ARMFILE_STATE_BYTES bytes; it is only read.
  * \param slip      the slip to judge, any bytes.
  * \param slip_len  its length; anything but 36 is refused.
- * \param verdict   receives ARMFILE_GENUINE or ARMFILE_NOT_GENUINE.
+ * \param verdict   receives ARMFILE_NOT_GENUINE, ARMFILE_CURRENT,
+ *                  ARMFILE_STALE or ARMFILE_AHEAD.
  * \return 0, 2, 7 or 8.
  */
 uint64_t armfile_check(const uint8_t state[ARMFILE_STATE_BYTES],

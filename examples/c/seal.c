@@ -1,4 +1,5 @@
-/* A file's life with the library: begun on a blank card, edited, sealed, put away, taken out again and checked; and sent unread. */
+/* A file's life with the library: begun on a blank card, edited, sealed, put away, taken out again and checked, an old card too; and sent
+ * unread. */
 #include <stdio.h>
 #include <string.h>
 #include "armfile.h"
@@ -10,7 +11,7 @@
 static const uint8_t key[ARMFILE_BLOCK_BYTES] = { 1, 2, 3, 4, 5, 6, 7, 8, 9, 10, 11, 12, 13, 14, 15, 16 };
 static const uint8_t head[] = "; arm 7, cell 3\n", line[] = "G1 X10 Y20 Z30\n", line_2[] = "G1 X11 Y20 Z30\n";
 static const uint8_t carrying_key[ARMFILE_BLOCK_BYTES] = { 16, 15, 14, 13, 12, 11, 10, 9, 8, 7, 6, 5, 4, 3, 2, 1 }; /* it seals nothing */
-static const uint8_t old[] = "X10", new_[] = "X12", left[] = "G1 X12 Y20 Z30\n";
+static const uint8_t old[] = "X10", new_[] = "X12", other[] = "X15", left[] = "G1 X12 Y20 Z30\n";
 
 /* What is put away: the state, which is secret, and the slip, which is not. */
 struct stored {
@@ -62,6 +63,18 @@ static int edit(uint8_t *state)
 	    || refused("cut_tail", armfile_cut_tail(state, TEXT(line_2), &count));
 }
 
+/* Seals three times: `left`, with a slip for Tuesday's card, a change of it, and `left` again, since the change was undone. */
+static int seal(struct stored *kept, uint8_t *tuesday)
+{
+	uint64_t count;
+
+	return refused("seal", armfile_seal(kept->state, tuesday, ARMFILE_SLIP_BYTES))
+	    || refused("change", armfile_change(kept->state, 3, TEXT(new_), TEXT(other), &count))
+	    || refused("seal", armfile_seal(kept->state, kept->slip, sizeof kept->slip))
+	    || refused("change", armfile_change(kept->state, 3, TEXT(other), TEXT(new_), &count))
+	    || refused("seal", armfile_seal(kept->state, kept->slip, sizeof kept->slip));
+}
+
 /* Puts away and takes out again. A controller would store the state where nobody else reads it, and before the slip leaves. */
 static int put_away(const struct stored *from, struct stored *to)
 {
@@ -71,6 +84,17 @@ static int put_away(const struct stored *from, struct stored *to)
 	if (f)
 		fclose(f);
 	return !fine;
+}
+
+/* Tuesday's card is put back. Its slip is of the bytes that are held, but not the newest: a test for anything but 0 would take it. */
+static int old_card(const uint8_t *state, const uint8_t *tuesday)
+{
+	uint8_t verdict = ARMFILE_NOT_GENUINE;
+
+	if (refused("check", armfile_check(state, tuesday, ARMFILE_SLIP_BYTES, &verdict)) || verdict != ARMFILE_STALE)
+		return 1;
+	printf("Tuesday's card: stale\n");
+	return 0;
 }
 
 /* Sends the file unread, and reads it where it arrives. One bit altered on the way, and it is refused: no text comes of it. */
@@ -95,22 +119,24 @@ static int carry(void)
 int main(void)
 {
 	struct stored kept, back;
-	uint8_t verdict = ARMFILE_NOT_GENUINE, of_reader = ARMFILE_NOT_GENUINE, reader[ARMFILE_STATE_BYTES];
+	uint8_t tuesday[ARMFILE_SLIP_BYTES], reader[ARMFILE_STATE_BYTES];
+	uint8_t verdict = ARMFILE_NOT_GENUINE, of_reader = ARMFILE_NOT_GENUINE;
 
-	if (edit(kept.state) || refused("seal", armfile_seal(kept.state, kept.slip, sizeof kept.slip)) || put_away(&kept, &back))
+	if (edit(kept.state) || seal(&kept, tuesday) || put_away(&kept, &back))
 		return 1;
 	printf("%u bytes, arm %u, seal %u\n", (unsigned)armfile_length(back.state), (unsigned)armfile_arm(back.state),
 		(unsigned)armfile_last(back.state));
-	/* The slip fits the state that was put away, and the state of one who reads the file whole. */
+	/* The slip is current by the state that was put away, and by that of one who reads the file whole. The reader is told the last used
+	 * number too: by 0 the slip would be ahead. */
 	if (refused("check", armfile_check(back.state, back.slip, sizeof back.slip, &verdict))
-	    || refused("read", armfile_read(key, sizeof key, ARM, 0, TEXT(left), reader))
+	    || refused("read", armfile_read(key, sizeof key, ARM, armfile_last(back.state), TEXT(left), reader))
 	    || refused("check", armfile_check(reader, back.slip, sizeof back.slip, &of_reader))
-	    || carry())
+	    || old_card(back.state, tuesday) || carry())
 		return 1;
 	wipe(kept.state, sizeof kept.state);
 	wipe(back.state, sizeof back.state);
 	wipe(reader, sizeof reader);
 	wipe_stack();
-	printf("%s\n", verdict == ARMFILE_GENUINE && of_reader == ARMFILE_GENUINE ? "genuine" : "not genuine");
+	printf("%s\n", verdict == ARMFILE_CURRENT && of_reader == ARMFILE_CURRENT ? "current" : "not current");
 	return 0;
 }

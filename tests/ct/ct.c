@@ -10,10 +10,11 @@
  * done, and every answer, count, offset and verdict. Answers, counts and offsets must come out defined by themselves, but for a decryption's.
  * A tag is published by the call that makes it, and is declared public after that call, not before.
  *
- * The verdict is public and made inside check, so check may jump on it, and on nothing less: each check that comes to compare tags makes
- * at most one report, the jump, and its verdict then comes out defined, settled by that jump; or it makes no report, and its verdict
- * comes out undefined. A jump on a part of the tags would need a second one, or leave the verdict undefined. A decryption's answer, which
- * says whether the tag fits, is held to the same; what it then writes, or leaves, shows which way it went.
+ * Whether a slip's tag fits is found inside check, and is public since the verdict tells it. So check may jump on that, and on nothing less:
+ * each check that comes to compare tags makes at most one report, the jump, and its verdict then comes out defined, since by that jump and the
+ * two public numbers, the slip's and the last used one, it is settled; or it makes no report, and its verdict comes out undefined. A jump on a
+ * part of the tags would need a second one, or leave the verdict undefined. A decryption's answer, which says whether the tag fits, is held to
+ * the same; what it then writes, or leaves, shows which way it went.
  *
  * Each call is made on plain data too, and must give the same bytes.
  *
@@ -34,6 +35,7 @@
 #define SECRET_STATE 64 /* key, H, I and S; n, arm and last used number follow */
 #define SLIP ARMFILE_SLIP_BYTES
 #define SLIP_HEAD 20 /* version, length, arm and number; the tag follows */
+#define UNJUDGED 0xee /* what stands where a verdict goes: no verdict, and what a refused check leaves */
 #define MOST 100 /* the longest edit */
 #define WHOLE 1000 /* the longest file, nonce or text, and the most of A, C and associated data */
 #define HEAD 12 /* a record's: kind, p and l */
@@ -438,10 +440,11 @@ static void compared(unsigned reports, int defined) {
     jumps += reports;
 }
 
-/* A check of a slip with one bit turned, or of the slip itself (bit -1). Tags are compared where length and arm are right. */
-static void one_check(const uint8_t *sealed, const uint8_t *genuine, int bit) {
+/* A check of a slip with one bit turned, which is refused or not genuine, or of the slip itself (bit -1), which is judged by its number. Tags are
+ * compared where length and arm are right. */
+static void one_check(const uint8_t *sealed, const uint8_t *genuine, uint8_t by_number, int bit) {
     int compares = bit < 0 || bit >= 96;
-    uint8_t state[STATE], slip[SLIP], verdict = 2;
+    uint8_t state[STATE], slip[SLIP], verdict = UNJUDGED;
     memcpy(state, sealed, STATE);
     memcpy(slip, genuine, SLIP);
     if (bit >= 0)
@@ -456,21 +459,40 @@ static void one_check(const uint8_t *sealed, const uint8_t *genuine, int bit) {
     else if (reports > 0 || !all_bits(&verdict, 1, 0))
         fail("a check that compares no tags jumps on a secret, or tells of one");
     reveal(&verdict, 1);
-    if (verdict != (answer != 0 ? 2 : bit < 0))
+    if (verdict != (answer != 0 ? UNJUDGED : bit < 0 ? by_number : ARMFILE_NOT_GENUINE))
         fail("another verdict");
     reveal(state, STATE);
     must_be_same(state, sealed, STATE, "another state");
 }
 
+/* Slips by their number beside the last used one: the same; and smaller or larger by one, by much, by the high half or the highest bit alone. */
 static void on_check(void) {
-    uint8_t state[STATE], slip[SLIP], verdict = 2;
-    any_state(state, 40);
-    answered(armfile_seal(state, slip, SLIP), 0);
-    for (int bit = -1; bit < 8 * SLIP; bit++)
-        one_check(state, slip, bit);
+    const uint64_t high = UINT64_C(1) << 32, highest = UINT64_C(1) << 63;
+    const struct {
+        uint64_t number, last;
+        uint8_t verdict;
+    } slips[] = {
+        {42, 42, ARMFILE_CURRENT}, {UINT64_MAX, UINT64_MAX, ARMFILE_CURRENT},
+        {42, 43, ARMFILE_STALE}, {1, UINT64_MAX, ARMFILE_STALE}, {42, high + 42, ARMFILE_STALE}, {42, highest + 42, ARMFILE_STALE},
+        {42, 41, ARMFILE_AHEAD}, {UINT64_MAX, 0, ARMFILE_AHEAD}, {high + 42, 42, ARMFILE_AHEAD}, {highest + 42, 42, ARMFILE_AHEAD},
+    };
+    uint8_t state[STATE], slip[SLIP], verdict = UNJUDGED;
+    for (size_t i = 0; i < sizeof slips / sizeof slips[0]; i++) {
+        any_state(state, 40);
+        big_endian(state + 76, slips[i].number - 1, 8);
+        answered(armfile_seal(state, slip, SLIP), 0);
+        big_endian(state + 76, slips[i].last, 8);
+        for (int bit = -1; bit < 8 * SLIP; bit++)
+            one_check(state, slip, slips[i].verdict, bit);
+    }
     hide(state, SECRET_STATE);
     answered(armfile_check(state, slip, SLIP - 1, &verdict), 7);
-    printf("ct check: %u comparisons of tags, %u jumps, all on the verdict\n", comparisons, jumps);
+    big_endian(state + 64, ARMFILE_MAX_BYTES + 1, 8);
+    answered(armfile_check(state, slip, SLIP, &verdict), 2);
+    must_be_public(&verdict, 1, "a refused call has written");
+    if (verdict != UNJUDGED)
+        fail("a refused call has written");
+    printf("ct check: %u comparisons of tags, %u jumps, all on whether the tag fits\n", comparisons, jumps);
 }
 
 /* A decryption of what was sent, with one bit of its tag turned, or as it is (bit -1). */

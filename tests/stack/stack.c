@@ -23,6 +23,8 @@
 /* A blank file needs no memory: from 512 bytes on it is longer by so many times 2^40. At some lengths it is of zeros, which are not summed. */
 #define BLANK(n) ((n) < 512 ? (n) : (uint64_t)(n) << 40 | (n))
 #define FILL(n) ((n) % 256 == 255 ? 0 : 0xff)
+/* The slip's number is 1, and the state's last used one 0, 1 or 2, by which the slip is ahead, current or stale. */
+#define LAST(n) ((n) % 3)
 
 static volatile uint8_t *stack;
 static uintptr_t caller;
@@ -31,6 +33,7 @@ static uint8_t text[MOST], sent[MOST], tag[16];
 static uint8_t journal[5 * HEAD + 6 * (MOST + 16)];
 static size_t journal_len;
 static uint64_t count, offset;
+static const uint8_t verdicts[] = { ARMFILE_AHEAD, ARMFILE_CURRENT, ARMFILE_STALE };
 
 /* A call at a length, from a frame so large that the paint, which ends below the frame of the code that paints, covers its end. The room
  * is used after the call too, so that the frame is there as long as the call. */
@@ -54,7 +57,7 @@ CALL(start, armfile_start(key, 16, 7, 0, BLANK(n), FILL(n), state, &count))
 CALL(read_file, armfile_read(key, 16, 7, 0, file, n, state))
 CALL(length, armfile_length(state) != (uint64_t)n << 40)
 CALL(arm, armfile_arm(state) != 7)
-CALL(last, armfile_last(state) != 1)
+CALL(last, armfile_last(state) != LAST(n))
 CALL(change, armfile_change(state, n, file, n, file, n, &count))
 CALL(append, armfile_append(state, file, n, &count))
 CALL(prepend, armfile_prepend(state, file, WHOLE(n), &count))
@@ -62,7 +65,7 @@ CALL(drop_front, armfile_drop_front(state, file, WHOLE(n), &count))
 CALL(cut_tail, armfile_cut_tail(state, file, n, &count))
 CALL(replay, armfile_replay(state, journal, journal_len, &count, &offset))
 CALL(seal, armfile_seal(state, slip, sizeof slip))
-CALL(check, armfile_check(state, slip, sizeof slip, &verdict))
+CALL(check, armfile_check(state, slip, sizeof slip, &verdict) || verdict != verdicts[LAST(n)])
 
 /* By what the figure of a call may differ: by nothing, by how an input is hashed, or by that and by how a text's last bytes are made. */
 enum ways { NOTHING, HASHING, TEXTS };
@@ -125,7 +128,8 @@ static size_t on_paint(const char *name, uint64_t (*volatile call)(size_t), size
 	uintptr_t low = (uintptr_t)stack, end = (uintptr_t)&low - ROOM / 2;
 	size_t i;
 
-	if (armfile_start(key, 16, 7, 0, (uint64_t)n << 40, 0xff, state, &count) != 0 || armfile_seal(state, slip, sizeof slip) != 0)
+	if (armfile_start(key, 16, 7, 0, (uint64_t)n << 40, 0xff, state, &count) != 0 || armfile_seal(state, slip, sizeof slip) != 0
+	    || armfile_start(key, 16, 7, LAST(n), (uint64_t)n << 40, 0xff, state, &count) != 0)
 		stop(name, "has no state and slip to be called on");
 	if (armfile_gcm_encrypt(key, 16, file, NONCE(n), file, n, file, n, sent, n, tag, 16) != 0)
 		stop(name, "has no text that was sent");
@@ -133,7 +137,7 @@ static size_t on_paint(const char *name, uint64_t (*volatile call)(size_t), size
 	for (i = 0; low + i < end; i++)
 		stack[i] = paint;
 	if (call(n) != 0)
-		stop(name, "is refused, or reads another field than was put there");
+		stop(name, "is refused, reads another field than was put there, or gives another verdict");
 	if (caller > end)
 		stop(name, "was not called from painted stack");
 	for (i = 0; low + i < caller && stack[i] == paint; i++)

@@ -15,7 +15,8 @@ use Rattle.file.specs.declared.states.Answered.{Answered}
 use Rattle.file.specs.declared.states.Outcome.the-variants as outcome
 use Rattle.file.specs.declared.sealing.Sealed.{Sealed}
 use Rattle.file.specs.declared.sealing.Verdict.{Verdict}
-use Rattle.file.specs.declared.sealing.Verdict.the-variants as verdict
+use Rattle.file.specs.declared.sealing.Checked.{Checked}
+use Rattle.file.specs.declared.sealing.Checked.the-variants as answered
 use Rattle.file.specs.Contracts.{causeNumber, answerRefusal, outcomeRefusal, outcomeCount, stateAnswer, sealAnswer, checkAnswer}
 use Rattle.file.specs.Edits.{Edit}
 use Rattle.file.specs.States.{StateAnswer, Start, started, edited}
@@ -26,7 +27,7 @@ use Rattle.journal.specs.Contracts as journal
 use Rattle.journal.specs.Contracts.{replayAnswer}
 use Rattle.journal.specs.Journals.{replayed}
 use Rattle.capi.specs.Bytes.{packedState, stateFrom}
-use Rattle.capi.specs.Calls.{EditCall, kept, editCall, startCall, ReadCall, keptUncounted, SealCall, stamped, sealCall, CheckCall, judged, checkCall, written, replayCall}
+use Rattle.capi.specs.Calls.{EditCall, kept, editCall, startCall, ReadCall, keptUncounted, SealCall, stamped, sealCall, CheckCall, verdictByte, judged, checkCall, written, replayCall}
 use Rattle.capi.specs.Contracts.{editResult, readResult, sealResult, checkResult, replayResult}
 
 -- a number that is a cause's is not 0
@@ -105,21 +106,17 @@ seal-call state slip es ea ex =
 
 -- ---- check
 
-module _ (v : Verdict) (held : ℕ) where
-  pub judged-refused : {c : Cause} {n : ℕ} → v ≡ verdict.Refused c → n ≡ causeNumber c
-      → checkResult n held ≡ judged (checkAnswer v) held
+module _ (a : Checked) (held : ℕ) where
+  pub judged-refused : {c : Cause} {n : ℕ} → a ≡ answered.Refused c → n ≡ causeNumber c
+      → checkResult n held ≡ judged (checkAnswer a) held
   unfolding judged
   judged-refused {c} {n} x y =
-      let z : checkAnswer v .refusal ≡ causeNumber c = ap (λ (w : Verdict). checkAnswer w .refusal) x in
+      let z : checkAnswer a .refusal ≡ causeNumber c = ap (λ (w : Checked). checkAnswer w .refusal) x in
       simp (ne-eqb _ _ (refusal _ c z)) (ap (λ (m : ℕ). checkResult m held) (y ∙ sym z))
 
-  pub judged-genuine : v ≡ verdict.Genuine → checkResult 0 1 ≡ judged (checkAnswer v) held
+  pub judged-found : {v : Verdict} {b : ℕ} → a ≡ answered.Found v → b ≡ verdictByte v → checkResult 0 b ≡ judged (checkAnswer a) held
   unfolding judged
-  judged-genuine x = sym (ap (λ (w : Verdict). judged (checkAnswer w) held) x)
-
-  pub judged-not : v ≡ verdict.NotGenuine → checkResult 0 0 ≡ judged (checkAnswer v) held
-  unfolding judged
-  judged-not x = sym (ap (λ (w : Verdict). judged (checkAnswer w) held) x)
+  judged-found x y = ap (checkResult 0) y ∙ sym (ap (λ (w : Checked). judged (checkAnswer w) held) x)
 
 -- the check of the state that was read
 pub check-call : (state slip : List ℕ) (held : ℕ) {st : State} {a : CheckAnswer} {x : CheckCall} → st ≡ stateFrom state → a ≡ checked st slip

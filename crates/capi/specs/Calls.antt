@@ -6,6 +6,8 @@ use Prim.Native.Nat.{ℕ}
 use lib.Dec.{eqb}
 use Rattle.file.specs.Edits.{Edit}
 use Rattle.file.specs.States.{StateAnswer, Start, Reading, started, readFile, edited}
+use Rattle.file.specs.declared.sealing.Verdict.{Verdict}
+use Rattle.file.specs.declared.sealing.Verdict.the-variants.{NotGenuine, Current, Stale, Ahead}
 use Rattle.file.specs.Slips.{SealAnswer, sealed, CheckAnswer, checked}
 use Rattle.journal.specs.Journals.{ReplayAnswer, replayed}
 use Rattle.capi.specs.Bytes.{packedState, stateFrom}
@@ -73,10 +75,16 @@ pub record CheckCall : Type 0 where
   pub refusal : ℕ
   pub verdict : ℕ
 
--- what a check leaves (document 01, "Causes and their numbers"): as verdict 1 for genuine and 0 for not, which are the boundary's own; where
--- check refuses, what stood there
+-- the byte of a verdict, which is the boundary's own (document 02, Q-5)
+unfoldable pub verdictByte : Verdict → ℕ
+verdictByte NotGenuine = 0
+verdictByte Current = 1
+verdictByte Stale = 2
+verdictByte Ahead = 3
+
+-- what a check leaves (document 01, "Causes and their numbers"): its verdict's byte; where check refuses, what stood there
 unfoldable pub judged : CheckAnswer → (verdict : ℕ) → CheckCall
-judged a verdict = record { refusal = a .refusal; verdict = cond (eqb (a .refusal) 0) (cond (a .genuine) 1 0) verdict }
+judged a verdict = record { refusal = a .refusal; verdict = cond (eqb (a .refusal) 0) (verdictByte (a .verdict)) verdict }
 
 -- check: the file keeper's `checked` of `stateFrom` (document 01, "Slip, seal, check")
 unfoldable pub checkCall : (state slip : List ℕ) (verdict : ℕ) → CheckCall

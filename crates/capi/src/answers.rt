@@ -3,13 +3,14 @@ use super::packing::STATE_BYTES;
 use super::packing::encode;
 use file::Answered;
 use file::Outcome;
+use file::Verdict;
 ghost use mathlib.Core.Path.{_≡_};
 ghost use Rattle.cipher.specs.Aes;
 ghost use Rattle.field.specs.Field;
 ghost use Rattle.gcm.specs.Gcm;
 ghost use Rattle.file.specs.Contracts.{stateAnswer};
 ghost use Rattle.journal.specs.Contracts as journal;
-ghost use Rattle.capi.specs.Calls.{kept};
+ghost use Rattle.capi.specs.Calls.{kept, verdictByte};
 ghost use Rattle.capi.specs.Contracts.{editResult};
 
 // The number of a cipher's answer.
@@ -64,6 +65,18 @@ pub fn journal_number(a: journal::Answer) -> u64
     match a {
         journal::Answer::Done => 0,
         journal::Answer::Refused(cause) => cause.number(),
+    }
+}
+
+// The byte of a check's verdict.
+pub fn verdict_byte(v: Verdict) -> u8
+    ensures { λ r. ⌜ r ≡ verdictByte v ⌝ }
+{
+    match v {
+        Verdict::NotGenuine => 0,
+        Verdict::Current => 1,
+        Verdict::Stale => 2,
+        Verdict::Ahead => 3,
     }
 }
 

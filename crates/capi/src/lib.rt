@@ -8,9 +8,10 @@ use answers::field_number;
 use answers::gcm_number;
 use answers::journal_number;
 use answers::keep;
+use answers::verdict_byte;
 use file::Answer;
+use file::Checked;
 use file::State;
-use file::Verdict;
 use journal::replay;
 use packing::STATE_BYTES;
 use packing::arm_of;
@@ -248,21 +249,18 @@ pub extern "C" fn armfile_last(state: &[u8; STATE_BYTES]) -> u64
     last_of(state)
 }
 
-// Whether a slip is of the file: the verdict is 1 for genuine and 0 for not. Refused as `State::check` is; the verdict then stays as it was.
+// What a check finds of a slip: the verdict is 0 for not genuine, 1 for current, 2 for stale and 3 for ahead. Refused as `State::check` is; the
+// verdict then stays as it was.
 #[no_mangle]
 pub extern "C" fn armfile_check(state: &[u8; STATE_BYTES], slip: &[u8], verdict: &mut u8) -> u64
     ensures { λ r. ⌜ checkResult r (now (verdict .exit)) ≡ checkCall (now (state .entry)) (now (slip .entry)) (now (verdict .entry)) ⌝ }
 {
     let st = decode(state);
-    let v = st.check(slip);
-    match v {
-        Verdict::Refused(cause) => cause.number(),
-        Verdict::Genuine => {
-            *verdict = 1;
-            0
-        }
-        Verdict::NotGenuine => {
-            *verdict = 0;
+    let answer = st.check(slip);
+    match answer {
+        Checked::Refused(cause) => cause.number(),
+        Checked::Found(v) => {
+            *verdict = verdict_byte(v);
             0
         }
     }

@@ -1,7 +1,9 @@
-// One motion file's life: a start on a blank card, which reads FF (hexadecimal), four edits, a journal of two more that a service laptop brings,
-// a seal, and after a restart one read of the card and a check of the slip. Each step prints the file's length, the running sum and the count of
-// products, or the verdict.
+// One motion file's week: a start on a blank card, which reads FF (hexadecimal), four edits, a journal of two more that a service laptop brings, and
+// Tuesday's seal. The format is changed and sealed on Wednesday, and put back and sealed on Thursday, so that Tuesday's card has the right bytes
+// again on Friday; its slip is stale. After a restart the card is read once, and slips are checked. Each step prints the file's length, the running
+// sum and the count of products, or the slip, or the verdict.
 use file::Answered;
+use file::Checked;
 use file::Outcome;
 use file::SLIP_BYTES;
 use file::State;
@@ -30,25 +32,65 @@ fn main() {
     let cut = &journal[..33];
     print_replay(b"replay a journal cut short", replay(st, cut));
     let st = print_replay(b"replay the whole journal", replay(st, journal));
+    let mut tuesday = [0u8; SLIP_BYTES];
+    let st = print_seal(b"seal on Tuesday", st, &mut tuesday);
+    week(st, &tuesday);
+}
+
+// The week from Wednesday on: the format is changed and put back, so that the bytes are Tuesday's again.
+fn week(st: State, tuesday: &[u8; SLIP_BYTES]) {
     let mut slip = [0u8; SLIP_BYTES];
-    st.seal(&mut slip);
-    io::write_all(STDOUT_FILENO, b"seal: slip ");
-    print_bytes(&slip);
-    io::write_all(STDOUT_FILENO, b"\n");
+    let st = print_step(
+        b"change the format",
+        st.change(56, b"gripper B", b"gripper C"),
+    );
+    let st = print_seal(b"seal on Wednesday", st, &mut slip);
+    let st = print_step(
+        b"undo the change",
+        st.change(56, b"gripper C", b"gripper B"),
+    );
+    let st = print_seal(b"seal on Thursday", st, &mut slip);
+    check(b"check Tuesday's slip on Friday", st, tuesday);
+    check(b"check Thursday's slip on Friday", st, &slip);
 
     // What the card then holds: the head, 40 bytes of FF of which three were changed twice, and the appended ones.
     let mut card =
         *b"motion file head\xff\xff\xff\xff\xff\xff\xff\xff\xff\xff\xff\xff\xff\xff\xffnow\xff\xff\xff\xff\xff\xff\xff\xff\xff\xff\xff\xff\xff\xff\xff\xff\xff\xff\xff\xff\xff\xffgripper B";
-    check(b"check after reading the card", &card, &slip);
+    check(b"check after reading the card", read(3, &card), &slip);
+    check(b"check where seal 3 is unknown", read(2, &card), &slip);
     card[40] = 0xfe;
-    check(b"check with one bit flipped", &card, &slip);
+    check(b"check with one bit flipped", read(3, &card), &slip);
 }
 
-// One read of the card, and a check of the slip.
-fn check(name: &[u8], card: &[u8; 65], slip: &[u8; SLIP_BYTES]) {
+// One read of the card, with the last used seal number.
+fn read(last: u64, card: &[u8; 65]) -> State {
     let key = b"a key for arm 7.";
-    let st = print_step(b"read the card", State::read(key, ARM, 1, card));
-    print_verdict(name, st.check(slip));
+    print_step(b"read the card", State::read(key, ARM, last, card))
+}
+
+// Checks a slip, and prints the verdict.
+fn check(name: &[u8], st: State, slip: &[u8; SLIP_BYTES]) {
+    let answer = st.check(slip);
+    io::write_all(STDOUT_FILENO, name);
+    match answer {
+        Checked::Found(verdict) => print_verdict(verdict),
+        Checked::Refused(cause) => {
+            io::write_all(STDOUT_FILENO, b": refused ");
+            io::print_decimal(STDOUT_FILENO, cause.number());
+        }
+    }
+    io::write_all(STDOUT_FILENO, b"\n");
+}
+
+// Seals the file, prints the slip and hands on the state.
+fn print_seal(name: &[u8], st: State, slip: &mut [u8; SLIP_BYTES]) -> State {
+    let sealed = st.seal(slip);
+    io::write_all(STDOUT_FILENO, name);
+    io::write_all(STDOUT_FILENO, b": slip ");
+    print_bytes(slip);
+    io::write_all(STDOUT_FILENO, b"\n");
+    let after = sealed.state;
+    after
 }
 
 fn print_bytes(s: &[u8]) {
@@ -113,17 +155,19 @@ fn print_replay(name: &[u8], r: Replayed) -> State {
 }
 
 // Prints a verdict.
-fn print_verdict(name: &[u8], verdict: Verdict) {
-    io::write_all(STDOUT_FILENO, name);
+fn print_verdict(verdict: Verdict) {
     match verdict {
-        Verdict::Genuine => {
-            io::write_all(STDOUT_FILENO, b": genuine\n");
-        }
         Verdict::NotGenuine => {
-            io::write_all(STDOUT_FILENO, b": not genuine\n");
+            io::write_all(STDOUT_FILENO, b": not genuine");
         }
-        Verdict::Refused(_) => {
-            io::write_all(STDOUT_FILENO, b": refused\n");
+        Verdict::Current => {
+            io::write_all(STDOUT_FILENO, b": current");
+        }
+        Verdict::Stale => {
+            io::write_all(STDOUT_FILENO, b": stale");
+        }
+        Verdict::Ahead => {
+            io::write_all(STDOUT_FILENO, b": ahead");
         }
     }
 }

@@ -44,7 +44,7 @@ agrees-further key arm last r w g c =
     }
 
 -- and so does a list, wherever it begins
-agrees-run : (key : List ℕ) (arm last : ℕ) (r : Run) (calls : List Call) → arm < 2 ^ 32 → Agrees key arm last r
+pub agrees-run : (key : List ℕ) (arm last : ℕ) (r : Run) (calls : List Call) → arm < 2 ^ 32 → Agrees key arm last r
     → Agrees key arm last (run r calls)
 unfolding run
 agrees-run key arm last r [] w g = g

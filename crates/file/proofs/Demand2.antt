@@ -1,20 +1,25 @@
 -- Demand 2: after any true list of calls from an accepted start or read, an accepted seal's slip carries GMAC of the bytes held and the next
--- number, and check finds genuine exactly the byte lists that are slips of those bytes.
--- It rests on what the two runs have in common (`Agreement`), on seal and check at a state (`SealLaws`) and on gcm's tag formula (`TagLaws`).
+-- number, check finds genuine exactly the byte lists that are slips of those bytes, and each verdict comes exactly on its condition.
+-- It rests on what the two runs have in common (`Agreement`), on seal and check at a state (`SealLaws`, `Verdicts`) and on gcm's tag formula
+-- (`TagLaws`).
 use mathlib.Core.Path.{_≡_, sym, ap, subst, _∙_}
+use mathlib.Core.Bool.{true}
+use mathlib.Core.Logic.{_↔_, Iff·trans}
 use mathlib.Core.List.{List}
 use Prim.Native.Nat.{ℕ, _+_, _≤_, _<_, _^_}
 use Rattle.field.specs.Field.{value, maxBytes}
 use Rattle.gcm.specs.Gcm.{gmac}
 use Rattle.gcm.proofs.TagLaws.{tag-gmac}
 use Rattle.file.specs.declared.states.State.{State}
-use Rattle.file.specs.Slips.{slipArm, slipNumber, nonceOf, stateTag, SealAnswer, sealRefusal, sealed}
+use Rattle.file.specs.declared.sealing.Verdict.{Verdict}
+use Rattle.file.specs.Slips.{slipArm, slipNumber, nonceOf, stateTag, SealAnswer, sealRefusal, sealed, checkRefusal, genuine, Finds, Condition}
 use Rattle.file.specs.Calls.{seal, callRefusal}
 use Rattle.file.specs.Machine.{Machine, machineRefusal}
 use Rattle.file.specs.Runs.{Run}
-use Rattle.file.specs.Demands.{SlipOf, Sealing, Demand2}
+use Rattle.file.specs.Demands.{Opens, SlipOf, Sealing, Demand2}
 use Rattle.file.proofs.Calls.{seal-next}
-use Rattle.file.proofs.SealLaws.{Checked, next-number, next-checked, genuine-checked, checked-genuine}
+use Rattle.file.proofs.SealLaws.{Checked, next-number, next-checked, check-opens, opens-check, genuine-checked, checked-genuine}
+use Rattle.file.proofs.Verdicts.{condition-iff, split}
 use Rattle.file.proofs.Invariant.{Holds, Summed, same-refusal}
 use Rattle.file.proofs.Agreement.{Agrees, agrees-start, agrees-read}
 
@@ -23,6 +28,9 @@ module _ (key : List ℕ) (arm : ℕ) (st : State) (m : Machine) (h : Holds key 
   tag-held : (arm′ number : ℕ) → stateTag st arm′ number ≡ gmac key (nonceOf arm′ number) (m .bytes)
   unfolding stateTag
   tag-held arm′ number = cc (tag-gmac key (m .bytes) (nonceOf arm′ number) (h .short))
+
+  short : st .n ≤ maxBytes
+  short = subst (λ (x : ℕ). x ≤ maxBytes) (sym (h .same-n)) (h .short)
 
   -- so a byte list is genuine exactly where it is a slip of them
   checked-fits : (slip : List ℕ) → Checked st slip → SlipOf key arm (m .bytes) slip
@@ -44,6 +52,22 @@ module _ (key : List ℕ) (arm : ℕ) (st : State) (m : Machine) (h : Holds key 
         same-arm = f .same-arm ∙ sym (h .same-arm);
         tag = f .tag ∙ ap value (sym (tag-held (slipArm slip) (slipNumber slip)));
       }
+
+  genuine-fits : (slip : List ℕ) → (genuine st slip ≡ true) ↔ SlipOf key arm (m .bytes) slip
+  genuine-fits slip = (
+    λ e. checked-fits slip (genuine-checked st slip e),
+    λ f. checked-genuine st slip short (fits-checked slip f),
+  )
+
+  opens-iff : (slip : List ℕ) → (checkRefusal (st .n) slip ≡ 0) ↔ Opens slip
+  unfolding Opens
+  opens-iff slip = (check-opens (st .n) slip, λ o. opens-check (st .n) slip short (o .0) (o .1))
+
+  verdicts : (slip : List ℕ) (v : Verdict)
+      → Finds st slip v ↔ Condition (Opens slip) (SlipOf key arm (m .bytes) slip) (m .last) (slipNumber slip) v
+  verdicts slip v =
+      subst (λ (x : ℕ). Finds st slip v ↔ Condition (Opens slip) (SlipOf key arm (m .bytes) slip) x (slipNumber slip) v) (h .same-last)
+      (Iff·trans (split .verdicts st slip v) (condition-iff (st .last) (slipNumber slip) (opens-iff slip) (genuine-fits slip) v))
 
   -- and an accepted seal writes one, with the next number
   module _ (w : arm < 2 ^ 32) (out : List ℕ) (a : machineRefusal m (seal out) ≡ 0) where
@@ -69,20 +93,17 @@ module _ (key : List ℕ) (arm : ℕ) (st : State) (m : Machine) (h : Holds key 
         ∙ ap (λ (x : ℕ). x + 1) (h .same-last)
 
 -- demand 2 of a run whose state holds what its machine does, with the sum of its bytes
-sealing : (key : List ℕ) (arm last : ℕ) (r : Run) → arm < 2 ^ 32 → Agrees key arm last r → r .truth → Sealing key arm r
+pub sealing : (key : List ℕ) (arm last : ℕ) (r : Run) → arm < 2 ^ 32 → Agrees key arm last r → r .truth → Sealing key arm r
 sealing key arm last r w g t =
     let st = r .state in
     let m = r .machine in
     let h = g .holds in
     let s = g .summed t in
-    let l : st .n ≤ maxBytes = subst (λ (x : ℕ). x ≤ maxBytes) (sym (h .same-n)) (h .short) in
     record {
       seals = seals-fit key arm st m h s w;
       numbers = seals-next key arm st m h s w;
-      checks = λ slip. (
-        λ e. checked-fits key arm st m h s slip (genuine-checked st slip e),
-        λ f. checked-genuine st slip l (fits-checked key arm st m h s slip f),
-      );
+      checks = λ slip. Iff·trans (split .together st slip) (genuine-fits key arm st m h s slip);
+      verdicts = verdicts key arm st m h s;
     }
 
 pub demand-2 : Demand2

@@ -11,11 +11,13 @@ pub mod Calls
 pub mod Demand1
 pub mod EditAnswers
 pub mod SealLaws
+pub mod Verdicts
 pub mod Numbers
 pub mod Invariant
 pub mod BlankStart
 pub mod Agreement
 pub mod Demand2
+pub mod SlipAges
 pub mod Demand3
 pub mod HypothesesMet
 pub mod BenchCases

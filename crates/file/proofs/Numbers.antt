@@ -61,7 +61,7 @@ rise-numbers a b x p = p .following ∙ ap (upFrom (a + 1)) (sym (ap length (p .
 pub rise-count : (a b : ℕ) (x : List ℕ) → Rise a x b → b ≡ a + length x
 rise-count a b x p = omega (arith, ap length (p .following) ∙ length-upFrom (a + 1) (p .count))
 
-rise-at : (a b : ℕ) (x : List ℕ) → Rise a x b → (i : ℕ) → i < length x → getD x i 0 ≡ a + 1 + i
+pub rise-at : (a b : ℕ) (x : List ℕ) → Rise a x b → (i : ℕ) → i < length x → getD x i 0 ≡ a + 1 + i
 rise-at a b x p i l = ap (λ (y : List ℕ). getD y i 0) (rise-numbers a b x p) ∙ getD-upFrom (a + 1) (length x) i l
 
 -- and none stands twice

@@ -13,7 +13,7 @@ use Rattle.field.specs.Field.{value, maxBytes}
 use Rattle.field.proofs.Values.{value-lt}
 use Rattle.file.specs.declared.states.State.{State}
 use Rattle.file.specs.Slips.{slipBytes, slipVersion, slipLength, slipArm, slipNumber, slipTag, stateTag}
-use Rattle.file.specs.Slips.{openCauses, sealRefusal, sealedNext, checkRefusal, fitting, checked}
+use Rattle.file.specs.Slips.{openCauses, sealRefusal, sealedNext, checkRefusal, fitting, genuine}
 use Rattle.file.proofs.SlipLaws.{ReadBack, slip-back}
 use Rattle.file.proofs.SealReturns.{seal-accepted}
 
@@ -66,31 +66,41 @@ all-true true true false d e = absurd (false≢true e)
 all-true true false c d e = absurd (false≢true e)
 all-true false b c d e = absurd (false≢true e)
 
-check-opens : (n : ℕ) (slip : List ℕ) → checkRefusal n slip ≡ 0 → (length slip ≡ slipBytes) × (slipVersion slip ≡ 1)
+pub check-opens : (n : ℕ) (slip : List ℕ) → checkRefusal n slip ≡ 0 → (length slip ≡ slipBytes) × (slipVersion slip ≡ 1)
 unfolding checkRefusal openCauses
 check-opens n slip e =
     let s = first-passed _ _ _ (first-passed _ _ _ e (omega arith) .1) (omega arith) in
     (agreed _ _ (s .0), agreed _ _ (first-passed _ _ _ (s .1) (omega arith) .0))
 
-pub genuine-checked : (st : State) (slip : List ℕ) → checked st slip .genuine ≡ true → Checked st slip
-unfolding checked fitting
-genuine-checked st slip e =
-    let t = all-true _ (eqb (slipLength slip) (st .n)) (eqb (slipArm slip) (st .arm)) _ e in
-    let o = check-opens (st .n) slip (eqb-true _ 0 (t .0)) in
-    record {
-      size = o .0;
-      version = o .1;
-      same-length = eqb-true _ _ (t .1);
-      same-arm = eqb-true _ _ (t .2);
-      tag = eqb-true _ _ (t .3);
-    }
+module _ (st : State) (slip : List ℕ) (e : genuine st slip ≡ true) where
+  passed :
+      (eqb (checkRefusal (st .n) slip) 0 ≡ true) × (eqb (slipLength slip) (st .n) ≡ true) × (eqb (slipArm slip) (st .arm) ≡ true)
+      × (eqb (slipTag slip) (value (stateTag st (slipArm slip) (slipNumber slip))) ≡ true)
+  unfolding genuine fitting
+  passed = all-true _ _ _ _ e
 
-check-accepted : (st : State) (slip : List ℕ) → st .n ≤ maxBytes → Checked st slip → 0 ≡ checkRefusal (st .n) slip
+  -- a genuine slip is not refused
+  pub genuine-opens : checkRefusal (st .n) slip ≡ 0
+  genuine-opens = eqb-true _ 0 (passed .0)
+
+  pub genuine-checked : Checked st slip
+  genuine-checked =
+      let t = passed in
+      let o = check-opens (st .n) slip genuine-opens in
+      record {
+        size = o .0;
+        version = o .1;
+        same-length = eqb-true _ _ (t .1);
+        same-arm = eqb-true _ _ (t .2);
+        tag = eqb-true _ _ (t .3);
+      }
+
+pub opens-check : (n : ℕ) (slip : List ℕ) → n ≤ maxBytes → length slip ≡ slipBytes → slipVersion slip ≡ 1 → checkRefusal n slip ≡ 0
 unfolding checkRefusal openCauses
-check-accepted st slip l k =
-    first-later _ _ _ (le-ltb _ _ l) (first-later _ _ _ (agree (k .size)) (first-later _ _ _ (agree (k .version)) first-none))
+opens-check n slip l s v =
+    sym (first-later _ _ _ (le-ltb _ _ l) (first-later _ _ _ (agree s) (first-later _ _ _ (agree v) first-none)))
 
-pub checked-genuine : (st : State) (slip : List ℕ) → st .n ≤ maxBytes → Checked st slip → checked st slip .genuine ≡ true
-unfolding checked fitting
+pub checked-genuine : (st : State) (slip : List ℕ) → st .n ≤ maxBytes → Checked st slip → genuine st slip ≡ true
+unfolding genuine fitting
 checked-genuine st slip l k =
-    rw (← check-accepted st slip l k, eq-eqb _ _ (k .same-length), eq-eqb _ _ (k .same-arm), eq-eqb _ _ (k .tag))
+    rw (opens-check (st .n) slip l (k .size) (k .version), eq-eqb _ _ (k .same-length), eq-eqb _ _ (k .same-arm), eq-eqb _ _ (k .tag))

@@ -1,6 +1,6 @@
 -- Seal's and check's answers, one law for each return: what holds where the call returns there gives its answer.
 use mathlib.Core.Path.{_≡_, refl, sym, ap, ap₂, _∙_}
-use mathlib.Core.Bool.{Bool, true, false}
+use mathlib.Core.Bool.{Bool, true, false, cond}
 use mathlib.Core.List.{List}
 use Prim.Native.Nat.{ℕ, _+_, _-_, _^_, _≤_}
 use native.Mathlib.Omega.{arith}
@@ -13,6 +13,8 @@ use Rattle.field.specs.Field.{bytes, value, maxBytes}
 use Rattle.refusals.proofs.Laws.{first-passed, agreed}
 use Rattle.gcm.specs.Gcm.{tagOf}
 use Rattle.file.specs.declared.states.State.{State}
+use Rattle.file.specs.declared.sealing.Verdict.{Verdict}
+use Rattle.file.specs.declared.sealing.Verdict.the-variants.{NotGenuine}
 use Rattle.file.specs.declared.causes.Cause.{Cause}
 use Rattle.file.specs.declared.causes.Answer.{Answer}
 use Rattle.file.specs.declared.causes.Answer.the-variants as answer
@@ -21,7 +23,7 @@ use Rattle.file.specs.declared.slips.Opened.{Opened}
 use Rattle.file.specs.declared.slips.Opened.the-variants as opened
 use Rattle.file.specs.States.{keyOf}
 use Rattle.file.specs.Slips.{slipBytes, packedSlip, slipLength, slipArm, slipNumber, slipTag, nonceOf, stateTag, SlipFields, openedWith}
-use Rattle.file.specs.Slips.{sealRefusal, SealAnswer, numbered, sealedNext, sealed, checkRefusal, fitting, CheckAnswer, checked}
+use Rattle.file.specs.Slips.{sealRefusal, SealAnswer, numbered, sealedNext, sealed, checkRefusal, fitting, genuine, byNumber, CheckAnswer, checked}
 use Rattle.file.specs.Contracts.{causeNumber, answerRefusal, openedOf}
 use Rattle.field.proofs.Stores.{stored-none, stored-next, stored-all}
 use Rattle.file.proofs.ShapeLaws.{cause-pos}
@@ -98,22 +100,23 @@ pub record Opens (slip : List ℕ) (f : Fields) : Type 0 where
 
 -- what is known of an opened slip gives the answer where it is refused
 pub refusal-told : {o p : Opened} → o ≡ p
-    → _≡_ {A = CheckAnswer} (record { refusal = openedOf p .refusal; genuine = false }) (record { refusal = openedOf o .refusal; genuine = false })
-refusal-told e = ap (λ (x : Opened). record { refusal = openedOf x .refusal; genuine = false }) (sym e)
+    → _≡_ {A = CheckAnswer} (record { refusal = openedOf p .refusal; verdict = NotGenuine })
+    (record { refusal = openedOf o .refusal; verdict = NotGenuine })
+refusal-told e = ap (λ (x : Opened). record { refusal = openedOf x .refusal; verdict = NotGenuine }) (sym e)
 
 -- o is what opening the slip for the state answered
 module _ (st : State) (slip : List ℕ) (o : Opened) (told : openedOf o ≡ openedWith (checkRefusal (st .n) slip) slip) where
   refusal-is : openedOf o .refusal ≡ checkRefusal (st .n) slip
   refusal-is = ap (λ (x : SlipFields). x .refusal) told ∙ opened-refusal (checkRefusal (st .n) slip) slip
 
-  pub check-refused : {c : Cause} {a : CheckAnswer} → o ≡ opened.Refused c → a ≡ record { refusal = openedOf o .refusal; genuine = false }
+  pub check-refused : {c : Cause} {a : CheckAnswer} → o ≡ opened.Refused c → a ≡ record { refusal = openedOf o .refusal; verdict = NotGenuine }
       → a ≡ checked st slip
-  unfolding checked
+  unfolding checked genuine
   check-refused {c} {a} e r =
       let y : checkRefusal (st .n) slip ≡ 0 → ⊥ =
       λ z. omega (arith, cause-pos c, ap (λ (p : Opened). openedOf p .refusal) (sym e) ∙ refusal-is ∙ z)
       in
-      r ∙ (λ j. record { refusal = refusal-is j; genuine = false }) ∙ simp (ne-eqb _ _ y)
+      r ∙ (λ j. record { refusal = refusal-is j; verdict = NotGenuine }) ∙ simp (ne-eqb _ _ y)
 
   module _ {f : Fields} (e : o ≡ opened.Slip f) where
     check-passed : checkRefusal (st .n) slip ≡ 0
@@ -137,28 +140,32 @@ module _ (st : State) (slip : List ℕ) (o : Opened) (told : openedOf o ≡ open
     unfolding checkRefusal
     check-short = ltb-false _ _ (first-passed _ _ _ check-passed (omega arith) .0)
 
-    -- whether the slip is genuine is g
-    judged : {g : Bool} → g ≡ fitting st slip → _≡_ {A = CheckAnswer} (record { refusal = 0; genuine = g }) (checked st slip)
-    unfolding checked
-    judged q = rw check-passed (λ j. record { refusal = 0; genuine = q j })
+    -- the verdict is v
+    judged : {v : Verdict} → v ≡ cond (fitting st slip) (byNumber (st .last) (slipNumber slip)) NotGenuine
+        → _≡_ {A = CheckAnswer} (record { refusal = 0; verdict = v }) (checked st slip)
+    unfolding checked genuine
+    judged q = rw check-passed (λ j. record { refusal = 0; verdict = q j })
 
-    pub check-length : (f .length ≡ st .n → ⊥) → _≡_ {A = CheckAnswer} (record { refusal = 0; genuine = false }) (checked st slip)
+    pub check-length : (f .length ≡ st .n → ⊥) → _≡_ {A = CheckAnswer} (record { refusal = 0; verdict = NotGenuine }) (checked st slip)
     unfolding fitting
     check-length y = judged (simp (ne-eqb _ _ (λ (z : slipLength slip ≡ st .n). y (sym (opens .length-is) ∙ z))))
 
     pub check-arm : f .length ≡ st .n → (f .arm ≡ st .arm → ⊥)
-        → _≡_ {A = CheckAnswer} (record { refusal = 0; genuine = false }) (checked st slip)
+        → _≡_ {A = CheckAnswer} (record { refusal = 0; verdict = NotGenuine }) (checked st slip)
     unfolding fitting
     check-arm y z =
         judged (simp (eq-eqb _ _ (opens .length-is ∙ y), ne-eqb _ _ (λ (w : slipArm slip ≡ st .arm). z (sym (opens .arm-is) ∙ w))))
 
-    -- mine is the state's tag under the slip's nonce, and g whether the two tags are one
-    pub check-tag : {mine : Block} {g : Bool} → f .length ≡ st .n → f .arm ≡ st .arm → mine ≡ stateTag st (f .arm) (f .number)
-        → g ≡ eqb (value (f .tag)) (value mine) → _≡_ {A = CheckAnswer} (record { refusal = 0; genuine = g }) (checked st slip)
+    -- mine is the state's tag under the slip's nonce, g whether the two tags are one, and v the verdict then
+    pub check-tag : {mine : Block} {g : Bool} {v : Verdict} → f .length ≡ st .n → f .arm ≡ st .arm → mine ≡ stateTag st (f .arm) (f .number)
+        → g ≡ eqb (value (f .tag)) (value mine) → v ≡ cond g (byNumber (st .last) (f .number)) NotGenuine
+        → _≡_ {A = CheckAnswer} (record { refusal = 0; verdict = v }) (checked st slip)
     unfolding fitting
-    check-tag {mine} {g} y z m q =
+    check-tag {mine} {g} {v} y z m q d =
         let tag : value mine ≡ value (stateTag st (slipArm slip) (slipNumber slip)) =
         ap value (m ∙ ap₂ (stateTag st) (sym (opens .arm-is)) (sym (opens .number-is)))
         in
-        judged
-        (simp (eq-eqb _ _ (opens .length-is ∙ y), eq-eqb _ _ (opens .arm-is ∙ z)) (q ∙ ap₂ eqb (sym (opens .tag-is)) tag))
+        let fits : g ≡ fitting st slip =
+        simp (eq-eqb _ _ (opens .length-is ∙ y), eq-eqb _ _ (opens .arm-is ∙ z)) (q ∙ ap₂ eqb (sym (opens .tag-is)) tag)
+        in
+        judged (d ∙ ap₂ (λ (t : Bool) (x : ℕ). cond t (byNumber (st .last) x) NotGenuine) fits (sym (opens .number-is)))

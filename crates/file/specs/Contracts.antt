@@ -1,5 +1,4 @@
 -- What serves contracts alone: the code's answers read in document 01's numbers and in the records of the other files.
-use mathlib.Core.Bool.{true, false}
 use mathlib.Core.List.{List}
 use Prim.Native.Nat.{ℕ}
 use Rattle.field.specs.Field.{value}
@@ -16,8 +15,9 @@ use Rattle.file.specs.declared.geometry.Measured.the-variants as measure
 use Rattle.file.specs.declared.edits.Asked.{Asked}
 use Rattle.file.specs.declared.edits.Asked.the-variants as asked
 use Rattle.file.specs.declared.sealing.Sealed.{Sealed}
-use Rattle.file.specs.declared.sealing.Verdict.{Verdict}
-use Rattle.file.specs.declared.sealing.Verdict.the-variants as verdict
+use Rattle.file.specs.declared.sealing.Verdict.the-variants.{NotGenuine}
+use Rattle.file.specs.declared.sealing.Checked.{Checked}
+use Rattle.file.specs.declared.sealing.Checked.the-variants as checked
 use Rattle.file.specs.declared.slips.Opened.{Opened}
 use Rattle.file.specs.declared.slips.Opened.the-variants as opened
 use Rattle.file.specs.Edits.{Geometry, untouched}
@@ -74,7 +74,6 @@ abbrev pub sealAnswer : Sealed → List ℕ → SealAnswer
 sealAnswer r slip = record { state = r .state; refusal = answerRefusal (r .answer); slip = slip }
 
 -- what check answered
-abbrev pub checkAnswer : Verdict → CheckAnswer
-checkAnswer verdict.Genuine = record { refusal = 0; genuine = true }
-checkAnswer verdict.NotGenuine = record { refusal = 0; genuine = false }
-checkAnswer (verdict.Refused c) = record { refusal = causeNumber c; genuine = false }
+abbrev pub checkAnswer : Checked → CheckAnswer
+checkAnswer (checked.Found v) = record { refusal = 0; verdict = v }
+checkAnswer (checked.Refused c) = record { refusal = causeNumber c; verdict = NotGenuine }

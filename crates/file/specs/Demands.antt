@@ -1,19 +1,21 @@
--- The three demands, whole, and what a start begins with. Their proofs are `demand-1`, `demand-2` and `demand-3` in proofs/Demand1, Demand2 and
--- Demand3, and `blank-start` in proofs/BlankStart.
+-- The three demands, whole, what a start begins with, and how the slips of a list age. Their proofs are `demand-1`, `demand-2` and `demand-3` in
+-- proofs/Demand1, Demand2 and Demand3, `blank-start` in proofs/BlankStart and `slip-ages` in proofs/SlipAges.
 use mathlib.Core.Path.{_≡_}
-use mathlib.Core.Bool.{true}
 use mathlib.Core.Logic.{_↔_, _≢_, _⊎_}
-use mathlib.Core.List.{List, [], _∷_}
+use mathlib.Core.List.{List, [], _∷_, _++_, map}
 use Prim.Native.Nat.{ℕ, zero, suc, _+_, _≤_, _<_, _^_}
 use lib.ListN.{length, getD, replicate}
 use Rattle.field.specs.Field.{value, zeroBlock, sum, blankCount, maxBytes}
 use Rattle.gcm.specs.Gcm.{hashKey, gmac, tagOf}
 use Rattle.file.specs.declared.states.State.{State}
 use Rattle.file.specs.States.{keyOf, zeroState, Start, Reading, beginRefusal, started, readFile}
-use Rattle.file.specs.Slips.{slipBytes, slipVersion, slipLength, slipArm, slipNumber, slipTag, nonceOf, sealed, checked}
+use Rattle.file.specs.declared.sealing.Verdict.{Verdict}
+use Rattle.file.specs.declared.sealing.Verdict.the-variants.{Current, Stale, Ahead}
+use Rattle.file.specs.Slips.{slipBytes, slipVersion, slipLength, slipArm, slipNumber, slipTag, nonceOf, sealed}
+use Rattle.file.specs.Slips.{Finds, FindsGenuine, Condition}
 use Rattle.file.specs.Calls.{Call, seal, callRefusal, lentSlip, callAnswer}
 use Rattle.file.specs.Machine.{machineRefusal}
-use Rattle.file.specs.Runs.{Run, fromStart, fromRead}
+use Rattle.file.specs.Runs.{Run, fromStart, fromRead, Written, writtenIn}
 
 -- ---- demand 1
 
@@ -56,6 +58,10 @@ pub record AcceptedRead (r : Reading) : Type 0 where
 
 -- ---- demand 2
 
+-- a byte list opens as a slip: 36 bytes, version 1 (document 01, "Slip, seal, check")
+unfoldable pub Opens : List ℕ → Type 0
+Opens slip = (length slip ≡ slipBytes) × (slipVersion slip ≡ 1)
+
 -- a byte list is a slip of an arm's file (document 01, "Slip, seal, check"): 36 bytes, version 1, that length, that arm, and GMAC of the
 -- bytes under the slip's own nonce
 pub record SlipOf (key : List ℕ) (arm : ℕ) (bytes slip : List ℕ) : Type 0 where
@@ -65,17 +71,47 @@ pub record SlipOf (key : List ℕ) (arm : ℕ) (bytes slip : List ℕ) : Type 0 
   pub same-arm : slipArm slip ≡ arm
   pub tag : slipTag slip ≡ value (gmac key (nonceOf (slipArm slip) (slipNumber slip)) bytes)
 
--- of a run (document 01, "Slip, seal, check"): what an accepted seal writes is a slip of the bytes held and carries the next number, and
--- a byte list is genuine exactly where it is a slip of them
+-- of a run (document 01, "Slip, seal, check"): what an accepted seal writes is a slip of the bytes held and carries the next number, and a byte
+-- list is genuine exactly where it is a slip of them; each of the four verdicts comes exactly on its condition (document 02, Q-5)
 pub record Sealing (key : List ℕ) (arm : ℕ) (r : Run) : Type 0 where
   pub seals : (out : List ℕ) → machineRefusal (r .machine) (seal out) ≡ 0 → SlipOf key arm (r .machine .bytes) (sealed (r .state) out .slip)
   pub numbers : (out : List ℕ) → machineRefusal (r .machine) (seal out) ≡ 0 → slipNumber (sealed (r .state) out .slip) ≡ r .machine .last + 1
-  pub checks : (slip : List ℕ) → (checked (r .state) slip .genuine ≡ true) ↔ SlipOf key arm (r .machine .bytes) slip
+  pub checks : (slip : List ℕ) → FindsGenuine (r .state) slip ↔ SlipOf key arm (r .machine .bytes) slip
+  pub verdicts :
+      (slip : List ℕ) (v : Verdict)
+      → Finds (r .state) slip v ↔ Condition (Opens slip) (SlipOf key arm (r .machine .bytes) slip) (r .machine .last) (slipNumber slip) v
 
 -- after any list of calls that were true as they arrived, from an accepted start and from an accepted read (document 01, "Slip, seal, check")
 pub record Demand2 : Type 0 where
   pub start : (s : Start) → AcceptedStart s → (calls : List Call) → fromStart s calls .truth → Sealing (s .key) (s .arm) (fromStart s calls)
   pub read : (r : Reading) → AcceptedRead r → (calls : List Call) → fromRead r calls .truth → Sealing (r .key) (r .arm) (fromRead r calls)
+
+-- ---- the slips of a list
+
+-- of the slips that a list wrote, and its run (document 02, Q-5)
+pub record Ages (slips : List Written) (r : Run) : Type 0 where
+  -- each number that the list issued stands on one of them, in the same order
+  pub numbers : map (λ (w : Written). slipNumber (w .slip)) slips ≡ r .numbers
+  -- the last one is current where the bytes are those it sealed
+  pub newest :
+      (before : List Written) (w : Written) → slips ≡ before ++ (w ∷ []) → r .truth → r .machine .bytes ≡ w .bytes
+      → Finds (r .state) (w .slip) Current
+  -- an earlier one is never current and never ahead, whatever the bytes
+  pub earlier :
+      (before after : List Written) (w next : Written) → slips ≡ before ++ (w ∷ next ∷ after)
+      → (¬ Finds (r .state) (w .slip) Current) × (¬ Finds (r .state) (w .slip) Ahead)
+  -- and it is stale where the bytes are again those it sealed
+  pub put-back :
+      (before after : List Written) (w next : Written) → slips ≡ before ++ (w ∷ next ∷ after) → r .truth → r .machine .bytes ≡ w .bytes
+      → Finds (r .state) (w .slip) Stale
+  -- no byte list is ahead whose number this list issued
+  pub issued :
+      (slip : List ℕ) (i : ℕ) → i < length (r .numbers) → slipNumber slip ≡ getD (r .numbers) i 0 → ¬ Finds (r .state) slip Ahead
+
+-- after any list of calls from an accepted start and from an accepted read (document 02, Q-5)
+pub record SlipAges : Type 0 where
+  pub start : (s : Start) → AcceptedStart s → (calls : List Call) → Ages (writtenIn (fromStart s []) calls) (fromStart s calls)
+  pub read : (r : Reading) → AcceptedRead r → (calls : List Call) → Ages (writtenIn (fromRead r []) calls) (fromRead r calls)
 
 -- ---- demand 3
 

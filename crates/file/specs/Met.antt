@@ -8,7 +8,9 @@ use Rattle.cipher.specs.Aes.{keyFits}
 use Rattle.field.specs.Field.{sum, maxBytes}
 use Rattle.gcm.specs.Gcm.{hashKey}
 use Rattle.file.specs.Edits.{change, append, prepend, dropFront, cutTail}
+use Rattle.file.specs.declared.sealing.Verdict.the-variants.{Current, Stale}
 use Rattle.file.specs.States.{Start, Reading}
+use Rattle.file.specs.Slips.{slipBytes, sealed, Finds}
 use Rattle.file.specs.Calls.{edit, seal, check}
 use Rattle.file.specs.Machine.{Machine, TrueCall}
 use Rattle.file.specs.Runs.{fromStart}
@@ -32,3 +34,9 @@ pub record Met : Type 0 where
   pub one-append :
       (s : Start) → AcceptedStart s → (given : List ℕ) → s .n + length given ≤ maxBytes
       → fromStart s (edit (append given) ∷ []) .state .s ≡ sum (hashKey (s .key)) (replicate (s .n) (s .fill) ++ given)
+  -- and of a list of two seals the first slip is stale afterwards, though the bytes are those it sealed, and the second is current
+  pub two-seals :
+      (s : Start) → AcceptedStart s → s .last + 2 < 2 ^ 64 → (a b : List ℕ) → length a ≡ slipBytes → length b ≡ slipBytes
+      → let r = fromStart s (seal a ∷ seal b ∷ []) in
+      Finds (r .state) (sealed (fromStart s [] .state) a .slip) Stale
+      × Finds (r .state) (sealed (fromStart s (seal a ∷ []) .state) b .slip) Current

@@ -1,7 +1,9 @@
--- The slip, seal and check for all inputs (document 01, "Slip, seal, check").
-use mathlib.Core.Bool.{Bool, false, cond, not, _&&_}
+-- The slip, seal and check for all inputs (document 01, "Slip, seal, check"; document 02, Q-5).
+use mathlib.Core.Path.{_≡_}
+use mathlib.Core.Bool.{Bool, true, false, cond, not, _&&_}
+use mathlib.Core.Logic.{_↔_, _⊎_}
 use mathlib.Core.List.{List, [], _∷_, _++_}
-use Prim.Native.Nat.{ℕ, _+_, _-_, _*_, _/_, _%_, _^_}
+use Prim.Native.Nat.{ℕ, _+_, _-_, _*_, _/_, _%_, _^_, _<_}
 use lib.Dec.{eqb, ltb}
 use lib.ListN.{length}
 use Rattle.refusals.specs.Refusals.{first}
@@ -9,6 +11,8 @@ use Rattle.field.specs.declared.blocks.Block.{Block}
 use Rattle.field.specs.Field.{number, bytes, value, maxBytes}
 use Rattle.gcm.specs.Gcm.{tagOf}
 use Rattle.file.specs.declared.states.State.{State}
+use Rattle.file.specs.declared.sealing.Verdict.{Verdict}
+use Rattle.file.specs.declared.sealing.Verdict.the-variants.{NotGenuine, Current, Stale, Ahead}
 use Rattle.file.specs.States.{keyOf}
 
 -- ---- the slip
@@ -119,22 +123,55 @@ sealed st out =
 unfoldable pub checkRefusal : ℕ → List ℕ → ℕ
 checkRefusal n slip = first ((ltb maxBytes n, 2) ∷ openCauses slip)
 
--- check's verdict on a slip that opened (document 01, "Slip, seal, check"): its length is n, its arm the state's, its tag the state's under
+-- what makes a slip that opened genuine (document 01, "Slip, seal, check"): its length is n, its arm the state's, its tag the state's under
 -- its own nonce
 unfoldable pub fitting : State → List ℕ → Bool
 fitting st slip =
     eqb (slipLength slip) (st .n) && eqb (slipArm slip) (st .arm)
     && eqb (slipTag slip) (value (stateTag st (slipArm slip) (slipNumber slip)))
 
--- what check answers (document 01, "Slip, seal, check"): the refusal or 0, and whether the slip is genuine
+-- whether a byte list is genuine (document 01, "Slip, seal, check"); a slip that is refused is not
+unfoldable pub genuine : State → List ℕ → Bool
+genuine st slip = cond (eqb (checkRefusal (st .n) slip) 0) (fitting st slip) false
+
+-- the verdict on a genuine slip (document 02, Q-5): current where its number is the last used, stale where it is smaller, ahead where it is larger
+unfoldable pub byNumber : (last number : ℕ) → Verdict
+byNumber last number = cond (eqb number last) Current (cond (ltb number last) Stale Ahead)
+
+-- what check answers (document 01, "Slip, seal, check"; document 02, Q-5): the refusal or 0, and its verdict
 pub record CheckAnswer : Type 0 where
   pub refusal : ℕ
-  pub genuine : Bool
+  pub verdict : Verdict
 
--- check, for all byte lists as slips (document 01, "Slip, seal, check"); a slip that is refused is not genuine
+-- check, for all byte lists as slips (document 01, "Slip, seal, check"; document 02, Q-5); a slip that is refused is not genuine
 unfoldable pub checked : State → List ℕ → CheckAnswer
 checked st slip =
     record {
       refusal = checkRefusal (st .n) slip;
-      genuine = cond (eqb (checkRefusal (st .n) slip) 0) (fitting st slip) false;
+      verdict = cond (genuine st slip) (byNumber (st .last) (slipNumber slip)) NotGenuine;
     }
+
+-- ---- the verdicts of a check
+
+-- check finds a verdict: it refuses nothing, and answers that one (document 02, Q-5)
+unfoldable pub Finds : State → List ℕ → Verdict → Type 0
+Finds st slip v = checked st slip ≡ record { refusal = 0; verdict = v }
+
+-- check finds a slip genuine: current, stale or ahead (document 02, Q-5)
+unfoldable pub FindsGenuine : State → List ℕ → Type 0
+FindsGenuine st slip = Finds st slip Current ⊎ Finds st slip Stale ⊎ Finds st slip Ahead
+
+-- the condition of each verdict (document 02, Q-5), where `opens` says that the slip is not refused and `fits` that it is genuine
+unfoldable pub Condition : (opens fits : Type 0) (last number : ℕ) → Verdict → Type 0
+Condition opens fits last number NotGenuine = opens × (¬ fits)
+Condition opens fits last number Current = fits × (number ≡ last)
+Condition opens fits last number Stale = fits × (number < last)
+Condition opens fits last number Ahead = fits × (last < number)
+
+-- of any state and any byte list: the three are together what genuine was, and the number splits them; not genuine keeps its meaning (document
+-- 02, Q-5). Its proof is `split` in proofs/Verdicts
+pub record Split : Type 0 where
+  pub together : (st : State) (slip : List ℕ) → FindsGenuine st slip ↔ (genuine st slip ≡ true)
+  pub verdicts :
+      (st : State) (slip : List ℕ) (v : Verdict)
+      → Finds st slip v ↔ Condition (checkRefusal (st .n) slip ≡ 0) (genuine st slip ≡ true) (st .last) (slipNumber slip) v

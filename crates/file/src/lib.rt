@@ -9,6 +9,7 @@ mod states;
 
 pub use causes::Answer;
 pub use causes::Cause;
+pub use sealing::Checked;
 pub use sealing::Sealed;
 pub use sealing::Verdict;
 pub use slips::SLIP_BYTES;

@@ -13,15 +13,28 @@ use field::packing::store;
 use gcm::tags::same;
 use gcm::tags::tag;
 ghost use mathlib.Core.Path.{_≡_};
-ghost use mathlib.Core.Bool.{false};
 ghost use Prim.Native.Nat.{_≤_};
 ghost use Rattle.field.specs.Field.{maxBytes};
-ghost use Rattle.file.specs.Slips.{sealRefusal, sealed, checked, stateTag};
+ghost use Rattle.file.specs.declared.sealing.Verdict.the-variants.{NotGenuine};
+ghost use Rattle.file.specs.Slips.{sealRefusal, sealed, byNumber, checked, stateTag};
 ghost use Rattle.file.specs.Contracts.{answerRefusal, sealAnswer, checkAnswer, openedOf};
 
+// What a check finds of a slip: it is not genuine, or it is, and then its seal number stands beside the last used one. Only Current is the slip
+// of the newest seal: who takes every genuine slip takes an old card too.
 pub enum Verdict {
-    Genuine,
+    // Its length, its arm or its tag is not that of the file held.
     NotGenuine,
+    // Genuine, and its number is the last used one.
+    Current,
+    // Genuine, and its number is smaller.
+    Stale,
+    // Genuine, and its number is larger.
+    Ahead,
+}
+
+// What check answers.
+pub enum Checked {
+    Found(Verdict),
     Refused(Cause),
 }
 
@@ -63,10 +76,10 @@ impl State {
         }
     }
 
-    // Whether a slip is of the file: its length and arm are the state's, and its tag is the file's under its own nonce. Refused, in this
-    // order, where the state's length passes 2^61 - 1, where the slip is not 36 bytes and where its version is not 1. The tags
-    // are compared by one test of all their bits.
-    pub fn check(self, slip: &[u8]) -> Verdict
+    // Whether a slip is of the file: its length and arm are the state's, and its tag is the file's under its own nonce; and if so, whether it is the
+    // newest. Refused, in this order, where the state's length passes 2^61 - 1, where the slip is not 36 bytes and where its version is not
+    // 1. The tags are compared by one test of all their bits.
+    pub fn check(self, slip: &[u8]) -> Checked
         ensures { λ r. ⌜ checkAnswer r ≡ checked self (now (slip .entry)) ⌝ }
     {
         let o = open_for(self.n, slip);
@@ -74,16 +87,16 @@ impl State {
             return refusal(o);
         };
         if f.length != self.n {
-            return Verdict::NotGenuine;
+            return Checked::Found(Verdict::NotGenuine);
         }
         if f.arm != self.arm {
-            return Verdict::NotGenuine;
+            return Checked::Found(Verdict::NotGenuine);
         }
         let given = f.tag;
         if same(given, self.tag_under(f.arm, f.number)) {
-            Verdict::Genuine
+            Checked::Found(by_number(self.last, f.number))
         } else {
-            Verdict::NotGenuine
+            Checked::Found(Verdict::NotGenuine)
         }
     }
 
@@ -103,13 +116,26 @@ impl State {
     }
 }
 
+// The verdict on a genuine slip, by its number beside the last used one.
+fn by_number(last: u64, number: u64) -> Verdict
+    ensures { λ r. ⌜ r ≡ byNumber last number ⌝ }
+{
+    if number == last {
+        return Verdict::Current;
+    }
+    if number < last {
+        return Verdict::Stale;
+    }
+    Verdict::Ahead
+}
+
 // The refusal of a slip that did not open.
-fn refusal(o: Opened) -> Verdict
-    ensures { λ r. ⌜ checkAnswer r ≡ record { refusal = openedOf o .refusal; genuine = false } ⌝ }
+fn refusal(o: Opened) -> Checked
+    ensures { λ r. ⌜ checkAnswer r ≡ record { refusal = openedOf o .refusal; verdict = NotGenuine } ⌝ }
 {
     match o {
-        Opened::Refused(cause) => Verdict::Refused(cause),
-        Opened::Slip(_) => Verdict::NotGenuine,
+        Opened::Refused(cause) => Checked::Refused(cause),
+        Opened::Slip(_) => Checked::Found(Verdict::NotGenuine),
     }
 }
 

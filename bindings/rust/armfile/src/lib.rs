@@ -4,12 +4,13 @@
 //! A controller keeps no motion file, only a [`State`] of 84 bytes. Changing,
 //! appending, prepending, dropping and cutting bytes moves the state without
 //! reading the file. A seal writes a slip of 36 bytes whose tag is AES-128
-//! GMAC of the whole file, and a check says whether a slip is genuine. A file
-//! that is to travel unread is encrypted by [`gcm_encrypt`] and brought back by
-//! [`gcm_decrypt`], which need no state.
+//! GMAC of the whole file, and a check says whether a slip is genuine, and
+//! whether it is the newest: a [`Verdict`]. A file that is to travel unread is
+//! encrypted by [`gcm_encrypt`] and brought back by [`gcm_decrypt`], which need
+//! no state.
 //!
 //! ```
-//! use armfile::{State, SLIP_BYTES};
+//! use armfile::{State, Verdict, SLIP_BYTES};
 //!
 //! # fn main() -> Result<(), armfile::Refusal> {
 //! let key = [7; 16]; // from the key store
@@ -18,9 +19,9 @@
 //! state.change(5, b"10", b"11")?;
 //! let mut slip = [0; SLIP_BYTES];
 //! state.seal(&mut slip)?;
-//! assert!(state.check(&slip)?);
+//! assert_eq!(state.check(&slip)?, Verdict::Current);
 //! state.cut_tail(b"; MOVE 0 0 0")?;
-//! assert!(!state.check(&slip)?);
+//! assert_eq!(state.check(&slip)?, Verdict::NotGenuine);
 //! # Ok(())
 //! # }
 //! ```
@@ -101,8 +102,8 @@ pub enum Refusal {
     TextTooLong,
     /// 14: the tag doesn't fit, so no text was released.
     WrongTag,
-    /// A number that this wrapper doesn't know, which only a library of
-    /// another version answers.
+    /// A number, of a refusal or of a verdict, that this wrapper doesn't know,
+    /// which only a library of another version answers.
     Unknown(u64),
 }
 
@@ -160,6 +161,58 @@ impl fmt::Display for Refusal {
 }
 
 impl core::error::Error for Refusal {}
+
+/// What a check found: [`State::check`]. A slip is genuine where its length and
+/// its arm are the state's and its tag is the file's under its own number. Only
+/// [`Verdict::Current`] is the slip of the newest seal: who takes any genuine
+/// slip takes an old card too.
+///
+/// As a `u8` a verdict is the library's number for it.
+#[must_use = "a slip may be an old one, or not genuine"]
+#[derive(Clone, Copy, Debug, PartialEq, Eq, Hash)]
+pub enum Verdict {
+    /// Its length, its arm or its tag is another, whatever its number is.
+    NotGenuine = 0,
+    /// Genuine, and its number is the last used one.
+    Current = 1,
+    /// Genuine, but its number is smaller than the last used one: the file has
+    /// kept the bytes that were sealed, or come back to them, but a later
+    /// number was used since. An old card, put back, has such a slip.
+    Stale = 2,
+    /// Genuine, but its number is larger than the last used one: this state
+    /// doesn't know of that seal. An older copy of it was put back, or it was
+    /// begun with too small a number. Don't seal with it, or a number is used
+    /// twice; begin it anew with the highest number of all seals.
+    Ahead = 3,
+}
+
+impl Verdict {
+    /// Whether the slip is genuine at all: current, stale or ahead.
+    pub const fn is_genuine(self) -> bool {
+        !matches!(self, Verdict::NotGenuine)
+    }
+
+    /// The library's verdict. No number that this wrapper doesn't know passes
+    /// for one that it does.
+    fn of(number: u8) -> Result<Verdict, Refusal> {
+        use Verdict::{Ahead, Current, NotGenuine, Stale};
+        let mut known = [NotGenuine, Current, Stale, Ahead].into_iter();
+        let verdict = known.find(|verdict| *verdict as u8 == number);
+        verdict.ok_or(Refusal::Unknown(number.into()))
+    }
+}
+
+/// The verdict in words: `not genuine`, `current`, `stale` or `ahead`.
+impl fmt::Display for Verdict {
+    fn fmt(&self, f: &mut fmt::Formatter) -> fmt::Result {
+        f.pad(match self {
+            Verdict::NotGenuine => "not genuine",
+            Verdict::Current => "current",
+            Verdict::Stale => "stale",
+            Verdict::Ahead => "ahead",
+        })
+    }
+}
 
 /// What a replay came to: [`State::replay`].
 #[must_use = "a replay may have stopped at a refused record"]
@@ -443,12 +496,32 @@ impl State {
         Refusal::of(ffi::seal(&mut self.bytes, slip))
     }
 
-    /// Whether a slip is genuine: its length and arm are the state's, and its
-    /// tag is the file's under its own number. Refusals, in this order: 7, 8.
-    pub fn check(&self, slip: &[u8]) -> Result<bool, Refusal> {
+    /// Whether a slip is genuine, and if it is, whether its number is the last
+    /// used one, a smaller or a larger. Refusals, in this order: 7, 8.
+    ///
+    /// A caller who used to take what is genuine takes [`Verdict::Current`]:
+    ///
+    /// ```
+    /// use armfile::{State, Verdict, SLIP_BYTES};
+    ///
+    /// # fn main() -> Result<(), armfile::Refusal> {
+    /// let key = [7; 16]; // from the key store
+    /// let mut state = State::read(&key, 3, 0, b"GRIP 4")?;
+    /// let (mut old, mut new) = ([0; SLIP_BYTES], [0; SLIP_BYTES]);
+    /// state.seal(&mut old)?;
+    /// state.change(5, b"4", b"5")?;
+    /// state.change(5, b"5", b"4")?; // and the bytes are those of before
+    /// state.seal(&mut new)?;
+    /// assert_eq!(state.check(&new)?, Verdict::Current);
+    /// assert_eq!(state.check(&old)?, Verdict::Stale);
+    /// assert!(state.check(&old)?.is_genuine()); // which is not enough
+    /// # Ok(())
+    /// # }
+    /// ```
+    pub fn check(&self, slip: &[u8]) -> Result<Verdict, Refusal> {
         let mut verdict = 0;
         Refusal::of(ffi::check(&self.bytes, slip, &mut verdict))?;
-        Ok(verdict == 1)
+        Verdict::of(verdict)
     }
 }
 
@@ -488,6 +561,39 @@ mod tests {
         assert_eq!(Refusal::of(15), Err(Refusal::Unknown(15)));
         let shown = Refusal::BrokenBlock.to_string();
         assert_eq!(shown, "refused 5: length no multiple of 16");
+    }
+
+    #[test]
+    fn numbers_and_words_of_verdicts() {
+        let words = ["not genuine", "current", "stale", "ahead"];
+        for (number, word) in (0..4).zip(words) {
+            let verdict = Verdict::of(number).unwrap();
+            assert_eq!(verdict as u8, number);
+            assert_eq!(verdict.to_string(), word);
+            assert_eq!(verdict.is_genuine(), number != 0);
+        }
+        for number in 4..=u8::MAX {
+            let unknown = Refusal::Unknown(number.into());
+            assert_eq!(Verdict::of(number), Err(unknown));
+        }
+    }
+
+    /// Each verdict, brought about, has its name: a card is sealed, changed and
+    /// sealed, changed back and sealed, and the state of before is behind.
+    #[test]
+    fn names_of_verdicts() {
+        let mut state = State::read(&[1; 16], 2, 3, b"GRIP A").unwrap();
+        let behind = State::from_bytes(*state.as_bytes());
+        let [mut old, mut other, mut new] = [[0; SLIP_BYTES]; 3];
+        state.seal(&mut old).unwrap();
+        state.change(5, b"A", b"B").unwrap();
+        state.seal(&mut other).unwrap();
+        state.change(5, b"B", b"A").unwrap();
+        state.seal(&mut new).unwrap();
+        assert_eq!(state.check(&old), Ok(Verdict::Stale));
+        assert_eq!(state.check(&other), Ok(Verdict::NotGenuine));
+        assert_eq!(state.check(&new), Ok(Verdict::Current));
+        assert_eq!(behind.check(&new), Ok(Verdict::Ahead));
     }
 
     /// Each cause, brought about, has its name; but for 13, for which no test

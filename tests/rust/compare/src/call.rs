@@ -52,13 +52,16 @@ macro_rules! made {
                 replayed.refusal.map_or(Ok(()), Err)
             }
             Call::Seal => $held.seal(out),
-            Call::Check { slip } => $held.check(slip).map(|g| $after.verdict = g.into()),
+            Call::Check { slip } => $held.check(slip).map(|v| $after.verdict = v as u8),
         }
     }};
 }
 
 /// A count or an offset that no call has written yet.
 pub const UNWRITTEN: u64 = 0xeeee_eeee_eeee_eeee;
+
+/// A verdict that no check has written yet.
+pub const UNJUDGED: u8 = 0xee;
 
 /// How many bytes of an input or output the report of a failing case shows.
 const SHOWN: usize = 1_100;
@@ -377,7 +380,7 @@ impl Lent {
             tag: Vec::new(),
             count: UNWRITTEN,
             offset: UNWRITTEN,
-            verdict: 0xee,
+            verdict: UNJUDGED,
         }
     }
 

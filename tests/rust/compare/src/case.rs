@@ -15,9 +15,13 @@ use crate::say;
 /// A part of the comparison: its name, how many cases it has, and a case.
 pub type Part = (&'static str, u64, fn(&mut Case));
 
-/// How many calls were answered by each number, from 0 to 14.
+/// How many calls were answered by each number, from 0 to 14, and how many
+/// checks came to each verdict, from 0 to 3.
 #[derive(Clone, Copy, Default)]
-pub struct Tally([u64; 15]);
+pub struct Tally {
+    answers: [u64; 15],
+    verdicts: [u64; 4],
+}
 
 /// The one number that no call here is answered by: a text of so many bytes is
 /// only claimed, in tests/claimed.rs.
@@ -25,12 +29,21 @@ const CLAIMED: usize = 13;
 
 impl Tally {
     fn calls(&self) -> u64 {
-        self.0.iter().sum()
+        self.answers.iter().sum()
     }
 
     fn add(&mut self, other: Tally) {
-        for (count, more) in self.0.iter_mut().zip(other.0) {
+        let counts = self.answers.iter_mut().chain(&mut self.verdicts);
+        for (count, more) in counts.zip(other.answers.into_iter().chain(other.verdicts)) {
             *count += more;
+        }
+    }
+
+    /// The verdicts as a part reports them: nothing where it checks no slip.
+    fn shown_verdicts(&self) -> String {
+        match self.verdicts {
+            [0, 0, 0, 0] => String::new(),
+            verdicts => format!(", verdicts {verdicts:?}"),
         }
     }
 }
@@ -58,6 +71,11 @@ impl Case {
         self.seed % 1_000_000
     }
 
+    /// How many checks of the case have come to each verdict until now.
+    pub fn verdicts(&self) -> [u64; 4] {
+        self.tally.verdicts
+    }
+
     /// Makes a call by the library, by its wrapper and by `reference`, holds
     /// them to the same outcome, and leaves in `lent` what it is afterwards.
     /// Returns 0 or the refusal number.
@@ -79,7 +97,10 @@ impl Case {
             panic!("the wrapper answers {answer}, {after}, unlike the library");
         }
         fields_are_read(&after);
-        self.tally.0[answer as usize] += 1;
+        self.tally.answers[answer as usize] += 1;
+        if let (Call::Check { .. }, 0) = (call, answer) {
+            self.tally.verdicts[usize::from(after.verdict)] += 1;
+        }
         *lent = after;
         answer
     }
@@ -124,17 +145,21 @@ fn given(name: &str) -> Option<u64> {
     )
 }
 
+/// Runs the case that COMPARE_SEED names.
+fn run_again(parts: &[Part], seed: u64) {
+    let number = (seed / 1_000_000 % 1_000) as usize;
+    let (name, _, run) = parts.get(number).expect("COMPARE_SEED names no part");
+    say(&format!("{name}: the case of seed {seed}"));
+    let mut case = Case::new(seed);
+    run(&mut case);
+    say(&format!("{} calls, all the same", case.tally.calls()));
+}
+
 /// Runs the parts, or the one case that COMPARE_SEED names. All of them make
 /// at least so many calls, and each number but 13 is answered by some.
 pub fn run(parts: &[Part], least: u64) {
     if let Some(seed) = given("COMPARE_SEED") {
-        let number = (seed / 1_000_000 % 1_000) as usize;
-        let (name, _, run) = parts.get(number).expect("COMPARE_SEED names no part");
-        say(&format!("{name}: the case of seed {seed}"));
-        let mut case = Case::new(seed);
-        run(&mut case);
-        say(&format!("{} calls, all the same", case.tally.calls()));
-        return;
+        return run_again(parts, seed);
     }
     let round = given("COMPARE_ROUND").unwrap_or(0);
     let begin = Instant::now();
@@ -149,19 +174,21 @@ pub fn run(parts: &[Part], least: u64) {
             tally.add(case.tally);
         }
         let (last, calls) = (first + cases - 1, tally.calls());
-        let seconds = part_begin.elapsed().as_secs_f64();
+        let (verdicts, seconds) = (tally.shown_verdicts(), part_begin.elapsed().as_secs_f64());
         say(&format!(
-            "{name}: seeds {first} to {last}, {calls} calls, {seconds:.1} s"
+            "{name}: seeds {first} to {last}, {calls} calls{verdicts}, {seconds:.1} s"
         ));
         total.add(tally);
     }
     let (calls, seconds) = (total.calls(), begin.elapsed().as_secs_f64());
-    say(&format!("calls by their answers, 0 to 14: {:?}", total.0));
+    let Tally { answers, verdicts } = total;
+    say(&format!("calls by their answers, 0 to 14: {answers:?}"));
+    say(&format!("checks by their verdicts, 0 to 3: {verdicts:?}"));
     say(&format!(
         "{calls} calls compared with the second implementation, in {seconds:.1} s"
     ));
     assert!(calls >= least, "fewer than {least} calls");
-    let numbers = 0..total.0.len();
-    let unanswered: Vec<usize> = numbers.filter(|&number| total.0[number] == 0).collect();
+    let numbers = 0..answers.len();
+    let unanswered: Vec<usize> = numbers.filter(|&number| answers[number] == 0).collect();
     assert_eq!(unanswered, [CLAIMED], "answers that no call had");
 }

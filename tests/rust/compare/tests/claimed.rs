@@ -15,8 +15,8 @@ use reference::journal::{
     replay_refusal, Edit, Head, APPEND, CHANGE, CUT_TAIL, DROP_FRONT, PREPEND,
 };
 use reference::refusal::{
-    refuse, too_long, whole_sum, BAD_BUFFER, NOT_SIXTEEN, NOT_WHOLE, OUTSIDE, TOO_LONG, UNEQUAL,
-    USED_UP, WRONG_TAG,
+    refuse, too_long, whole_sum, BAD_BUFFER, BAD_VERSION, NOT_SIXTEEN, NOT_WHOLE, OUTSIDE,
+    TOO_LONG, UNEQUAL, USED_UP, WRONG_TAG,
 };
 use reference::State;
 
@@ -542,7 +542,8 @@ fn one_record(edge: &Edge, n: u64, done: &[u8], head: Head) {
     }
 }
 
-/// Seal and check. No number is left to the seal, so no slip is written.
+/// Seal and check. No number is left to the seal, so no slip is written, and
+/// the bytes are of no slip with version 1, so none is judged.
 #[test]
 fn slips() {
     let around = [35, SLIP_BYTES, 37, (1 << 32) + SLIP_BYTES];
@@ -558,7 +559,8 @@ fn slips() {
                 unsafe { c::armfile_seal(state, slip, size) }
             });
             let name = format!("check of {size} bytes, file of {n}");
-            expect(&name, refuse(&[past, wrong]), false, &Lent::of(n), |lent| {
+            let expected = refuse(&[past, wrong, (true, BAD_VERSION)]);
+            expect(&name, expected, false, &Lent::of(n), |lent| {
                 let (state, verdict) = (lent.state.as_ptr(), &mut lent.verdict);
                 // SAFETY: what is claimed is on the forbidden page.
                 unsafe { c::armfile_check(state, input(size), size, verdict) }

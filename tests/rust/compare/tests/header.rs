@@ -32,33 +32,50 @@ fn number(text: &str) -> u64 {
     value.unwrap_or_else(|_| panic!("'{text}' in armfile.h is no number"))
 }
 
+/// The refusals, as the header, its wrapper and the second implementation have
+/// them.
+const REFUSALS: [(&str, Refusal, u64); 14] = [
+    (
+        "KEY_OR_BLOCK_LENGTH",
+        KeyOrBlockLength,
+        refusal::NOT_SIXTEEN,
+    ),
+    ("TOO_LONG", TooLong, refusal::TOO_LONG),
+    ("OUT_OF_FILE", OutOfFile, refusal::OUTSIDE),
+    ("UNEQUAL_PAIR", UnequalPair, refusal::UNEQUAL),
+    ("BROKEN_BLOCK", BrokenBlock, refusal::NOT_WHOLE),
+    ("NUMBERS_USED", NumbersUsed, refusal::USED_UP),
+    ("OUTPUT_LENGTH", OutputLength, refusal::BAD_BUFFER),
+    ("SLIP_VERSION", SlipVersion, refusal::BAD_VERSION),
+    ("EMPTY_NONCE", EmptyNonce, refusal::EMPTY_NONCE),
+    ("JOURNAL_LENGTH", JournalLength, refusal::BAD_JOURNAL),
+    ("RECORD_KIND", RecordKind, refusal::BAD_KIND),
+    ("RECORD_PLACE", RecordPlace, refusal::BAD_PLACE),
+    ("TEXT_TOO_LONG", TextTooLong, refusal::TEXT_TOO_LONG),
+    ("WRONG_TAG", WrongTag, refusal::WRONG_TAG),
+];
+
+/// So are these the verdicts.
+const VERDICTS: [(&str, armfile::Verdict, reference::Verdict); 4] = [
+    (
+        "NOT_GENUINE",
+        armfile::Verdict::NotGenuine,
+        reference::Verdict::NotGenuine,
+    ),
+    (
+        "CURRENT",
+        armfile::Verdict::Current,
+        reference::Verdict::Current,
+    ),
+    ("STALE", armfile::Verdict::Stale, reference::Verdict::Stale),
+    ("AHEAD", armfile::Verdict::Ahead, reference::Verdict::Ahead),
+];
+
 /// All of the header's numbers, and no other.
 #[test]
 fn names_and_numbers() {
-    let refusals: [(&str, Refusal, u64); 14] = [
-        (
-            "KEY_OR_BLOCK_LENGTH",
-            KeyOrBlockLength,
-            refusal::NOT_SIXTEEN,
-        ),
-        ("TOO_LONG", TooLong, refusal::TOO_LONG),
-        ("OUT_OF_FILE", OutOfFile, refusal::OUTSIDE),
-        ("UNEQUAL_PAIR", UnequalPair, refusal::UNEQUAL),
-        ("BROKEN_BLOCK", BrokenBlock, refusal::NOT_WHOLE),
-        ("NUMBERS_USED", NumbersUsed, refusal::USED_UP),
-        ("OUTPUT_LENGTH", OutputLength, refusal::BAD_BUFFER),
-        ("SLIP_VERSION", SlipVersion, refusal::BAD_VERSION),
-        ("EMPTY_NONCE", EmptyNonce, refusal::EMPTY_NONCE),
-        ("JOURNAL_LENGTH", JournalLength, refusal::BAD_JOURNAL),
-        ("RECORD_KIND", RecordKind, refusal::BAD_KIND),
-        ("RECORD_PLACE", RecordPlace, refusal::BAD_PLACE),
-        ("TEXT_TOO_LONG", TextTooLong, refusal::TEXT_TOO_LONG),
-        ("WRONG_TAG", WrongTag, refusal::WRONG_TAG),
-    ];
     let mut expected = BTreeMap::from([
         ("OK", 0),
-        ("NOT_GENUINE", 0),
-        ("GENUINE", 1),
         ("STATE_BYTES", armfile::STATE_BYTES as u64),
         ("SLIP_BYTES", armfile::SLIP_BYTES as u64),
         ("BLOCK_BYTES", armfile::BLOCK_BYTES as u64),
@@ -67,9 +84,13 @@ fn names_and_numbers() {
         ("MAX_TEXT_BYTES", armfile::MAX_TEXT_BYTES),
         ("SLIP_FORMAT", armfile::SLIP_FORMAT.into()),
     ]);
-    for (name, refusal, number) in refusals {
+    for (name, refusal, number) in REFUSALS {
         assert_eq!(refusal.number(), number, "{refusal}");
         expected.insert(name, number);
+    }
+    for (name, verdict, other) in VERDICTS {
+        assert_eq!(verdict as u64, other as u64, "{verdict}");
+        expected.insert(name, verdict as u64);
     }
     assert_eq!(numbers(), expected);
     assert_eq!(armfile::STATE_BYTES, state::STATE_BYTES);

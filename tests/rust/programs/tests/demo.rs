@@ -4,6 +4,9 @@
 
 use reference::blank;
 use reference::machine::Machine;
+use reference::Verdict::{self, Ahead, Current, NotGenuine, Stale};
+
+const KEY: &[u8; 16] = b"a key for arm 7.";
 
 /// What a byte of the blank card reads.
 const FILL: u8 = 0xff;
@@ -25,55 +28,82 @@ fn replay(text: &mut String, name: &str, machine: &Machine, count: u64, stop: &s
     ));
 }
 
-#[test]
-fn the_demo_prints_what_the_machine_says() {
-    let key = b"a key for arm 7.";
-    let mut text = String::new();
-    let mut machine = Machine::start(key, 7, 0, 40, FILL).unwrap();
-    let count = blank::count(FILL, 40);
-    step(&mut text, "start with 40 bytes of FF", &machine, count);
-    let count = machine.change(15, &[FILL; 3], b"new").unwrap();
-    step(&mut text, "change bytes 15 to 17", &machine, count);
-    let count = machine.append(b"gripper A").unwrap();
-    step(&mut text, "append 9 bytes", &machine, count);
-    let count = machine.prepend(b"motion file head").unwrap();
-    step(&mut text, "prepend 16 bytes", &machine, count);
-    let count = machine.cut_tail(b"er A").unwrap();
-    step(&mut text, "cut 4 bytes", &machine, count);
-    // Of the journal cut short the second record is refused; it begins behind
-    // a head of 12 bytes, 3 old ones and 3 new ones.
-    let mut cut = machine.clone();
-    let first = cut.change(31, b"new", b"now").unwrap();
-    replay(
-        &mut text,
-        "replay a journal cut short",
-        &cut,
-        first,
-        ", refused 10 at 18",
-    );
-    machine = cut;
-    let count = first + machine.append(b"er B").unwrap();
-    replay(
-        &mut text,
-        "replay the whole journal",
-        &machine,
-        count,
-        ", done at 34",
-    );
+/// A seal, and its slip.
+fn seal(text: &mut String, name: &str, machine: &mut Machine) -> [u8; 36] {
     let mut slip = [0; 36];
     machine.seal(&mut slip).unwrap();
-    text.push_str(&format!("seal: slip {}\n", hex(&slip)));
+    text.push_str(&format!("{name}: slip {}\n", hex(&slip)));
+    slip
+}
 
-    let mut card = machine.bytes.clone();
-    for (name, verdict) in [
-        ("check after reading the card", "genuine"),
-        ("check with one bit flipped", "not genuine"),
+/// A check that must come to this verdict.
+fn check(text: &mut String, name: &str, machine: &Machine, slip: &[u8], verdict: Verdict) {
+    assert_eq!(machine.check(slip), Ok(verdict), "{name}");
+    let word = match verdict {
+        NotGenuine => "not genuine",
+        Current => "current",
+        Stale => "stale",
+        Ahead => "ahead",
+    };
+    text.push_str(&format!("{name}: {word}\n"));
+}
+
+/// The file from the blank card on, up to the first seal.
+fn edited(text: &mut String) -> Machine {
+    let mut machine = Machine::start(KEY, 7, 0, 40, FILL).unwrap();
+    let count = blank::count(FILL, 40);
+    step(text, "start with 40 bytes of FF", &machine, count);
+    let count = machine.change(15, &[FILL; 3], b"new").unwrap();
+    step(text, "change bytes 15 to 17", &machine, count);
+    let count = machine.append(b"gripper A").unwrap();
+    step(text, "append 9 bytes", &machine, count);
+    let count = machine.prepend(b"motion file head").unwrap();
+    step(text, "prepend 16 bytes", &machine, count);
+    let count = machine.cut_tail(b"er A").unwrap();
+    step(text, "cut 4 bytes", &machine, count);
+    // Of the journal cut short the second record is refused; it begins behind
+    // a head of 12 bytes, 3 old ones and 3 new ones.
+    let first = machine.change(31, b"new", b"now").unwrap();
+    let stop = ", refused 10 at 18";
+    replay(text, "replay a journal cut short", &machine, first, stop);
+    let count = first + machine.append(b"er B").unwrap();
+    let stop = ", done at 34";
+    replay(text, "replay the whole journal", &machine, count, stop);
+    machine
+}
+
+/// Sealed, changed and sealed, changed back and sealed. Returns the last slip.
+fn sealed(text: &mut String, machine: &mut Machine) -> [u8; 36] {
+    let tuesday = seal(text, "seal on Tuesday", machine);
+    let count = machine.change(56, b"gripper B", b"gripper C").unwrap();
+    step(text, "change the format", machine, count);
+    seal(text, "seal on Wednesday", machine);
+    let count = machine.change(56, b"gripper C", b"gripper B").unwrap();
+    step(text, "undo the change", machine, count);
+    let thursday = seal(text, "seal on Thursday", machine);
+    let friday = "check Tuesday's slip on Friday";
+    check(text, friday, machine, &tuesday, Stale);
+    let friday = "check Thursday's slip on Friday";
+    check(text, friday, machine, &thursday, Current);
+    thursday
+}
+
+#[test]
+fn the_demo_prints_what_the_machine_says() {
+    let mut text = String::new();
+    let mut machine = edited(&mut text);
+    let slip = sealed(&mut text, &mut machine);
+    let card = machine.bytes;
+    let mut flipped = card.clone();
+    flipped[40] ^= 1;
+    for (name, last, card, verdict) in [
+        ("check after reading the card", 3, &card, Current),
+        ("check where seal 3 is unknown", 2, &card, Ahead),
+        ("check with one bit flipped", 3, &flipped, NotGenuine),
     ] {
-        let restarted = Machine::read(key, 7, 1, &card).unwrap();
+        let restarted = Machine::read(KEY, 7, last, card).unwrap();
         step(&mut text, "read the card", &restarted, 0);
-        assert_eq!(restarted.check(&slip).unwrap(), verdict == "genuine");
-        text.push_str(&format!("{name}: {verdict}\n"));
-        card[40] ^= 1;
+        check(&mut text, name, &restarted, &slip, verdict);
     }
     assert_eq!(text, include_str!("../../../../crates/demo/stdout"));
 }

@@ -1,5 +1,5 @@
 //! A plain second implementation of the arm file seal of document 01, and of
-//! document 02's edit journal, Q-1, GCM, Q-2, and fill bytes, Q-4.
+//! document 02's edit journal, Q-1, GCM, Q-2, fill bytes, Q-4, and verdicts, Q-5.
 //!
 //! FIPS 197 decides for AES, NIST SP 800-38D for the field, GHASH, GMAC and
 //! GCM, and the two documents for everything else. Clear code is preferred to
@@ -11,7 +11,7 @@
 //! - `blank`: the running sum of a blank file, and what it counts.
 //! - `gcm`: encryption and decryption of a text, over `aes` and `ghash`.
 //! - `bits`: numbers in bytes, packed most significant bit first.
-//! - `slip`: the 36 bytes of a slip.
+//! - `slip`: the 36 bytes of a slip, and the verdicts on it.
 //! - `state`: the controller, by document 01's formulas.
 //! - `journal`: the records of a journal, and their replay.
 //! - `machine`: the plain machine, from the bytes alone.
@@ -35,5 +35,5 @@ pub mod slip;
 pub mod state;
 
 pub use machine::Machine;
-pub use slip::Slip;
+pub use slip::{Slip, Verdict};
 pub use state::State;

@@ -10,7 +10,7 @@ use crate::refusal::{
     refuse, too_long, whole_sum, BAD_BUFFER, NOT_SIXTEEN, NOT_WHOLE, OUTSIDE, TOO_LONG, UNEQUAL,
     USED_UP,
 };
-use crate::slip::{nonce, Slip, SLIP_BYTES};
+use crate::slip::{nonce, Slip, Verdict, SLIP_BYTES};
 
 /// The machine, with start's key and arm beside what it holds.
 #[derive(Clone, Debug, PartialEq, Eq)]
@@ -154,10 +154,13 @@ impl Machine {
 
     /// Whether the slip is genuine: its length is the count of bytes held,
     /// its arm is start's and its tag is the GMAC of the bytes held under
-    /// its own nonce. Refusals: 7, 8.
-    pub fn check(&self, slip: &[u8]) -> Result<bool, u64> {
+    /// its own nonce; and if it is, how its number stands to the last used.
+    /// Refusals: 7, 8.
+    pub fn check(&self, slip: &[u8]) -> Result<Verdict, u64> {
         let slip = Slip::open(slip)?;
-        Ok(slip.length == self.n() && slip.arm == self.arm && slip.tag == self.tag(&slip.nonce()))
+        let genuine =
+            slip.length == self.n() && slip.arm == self.arm && slip.tag == self.tag(&slip.nonce());
+        Ok(slip.verdict(genuine, self.last))
     }
 
     fn grows_too_long(&self, given: &[u8]) -> (bool, u64) {

@@ -1,5 +1,7 @@
 //! The slip, document 01, "Slip, seal, check": 36 bytes, packed most
-//! significant bit first.
+//! significant bit first. What a check finds of it is document 02's, Q-5.
+
+use std::cmp::Ordering;
 
 use crate::bits::{number_of, pack};
 use crate::field::Block;
@@ -50,6 +52,32 @@ impl Slip {
     pub fn nonce(&self) -> [u8; 12] {
         nonce(self.arm, self.number)
     }
+
+    /// The verdict on the slip, once it is known whether it is genuine, where
+    /// this is the last used number.
+    pub fn verdict(&self, genuine: bool, last: u64) -> Verdict {
+        if !genuine {
+            return Verdict::NotGenuine;
+        }
+        match self.number.cmp(&last) {
+            Ordering::Less => Verdict::Stale,
+            Ordering::Equal => Verdict::Current,
+            Ordering::Greater => Verdict::Ahead,
+        }
+    }
+}
+
+/// What a check finds, with the numbers that armfile.h has for it. All but the
+/// first are genuine slips.
+#[derive(Clone, Copy, Debug, PartialEq, Eq)]
+pub enum Verdict {
+    NotGenuine = 0,
+    /// The slip's number is the last used.
+    Current = 1,
+    /// It is smaller.
+    Stale = 2,
+    /// It is larger.
+    Ahead = 3,
 }
 
 /// Arm and number are the 12-byte nonce.
@@ -80,6 +108,42 @@ mod tests {
             expected.extend(slip.tag);
             assert_eq!(slip.pack().to_vec(), expected);
             assert_eq!(Slip::open(&expected), Ok(slip));
+        }
+    }
+
+    /// Pairs of numbers, the first of them smaller.
+    const PAIRS: [(u64, u64); 11] = [
+        (0, 1),
+        (0, u64::MAX),
+        (41, 42),
+        (255, 256),
+        (u32::MAX as u64, 1 << 32),
+        (2, (1 << 32) + 1),
+        ((1 << 32) + 2, (2 << 32) + 1),
+        ((5 << 32) + 7, (5 << 32) + 8),
+        (1, 1 << 63),
+        ((1 << 63) - 1, 1 << 63),
+        (u64::MAX - 1, u64::MAX),
+    ];
+
+    #[test]
+    fn numbers_split_the_genuine_slips() {
+        let numbered = |number| Slip {
+            length: 40,
+            arm: 7,
+            number,
+            tag: [0; 16],
+        };
+        for (smaller, larger) in PAIRS {
+            assert_eq!(numbered(smaller).verdict(true, larger), Verdict::Stale);
+            assert_eq!(numbered(larger).verdict(true, smaller), Verdict::Ahead);
+            for number in [smaller, larger] {
+                let slip = numbered(number);
+                assert_eq!(slip.verdict(true, number), Verdict::Current);
+                for last in [smaller, larger] {
+                    assert_eq!(slip.verdict(false, last), Verdict::NotGenuine);
+                }
+            }
         }
     }
 

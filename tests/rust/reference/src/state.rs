@@ -14,7 +14,7 @@ use crate::refusal::{
     refuse, too_long, whole_sum, BAD_BUFFER, NOT_SIXTEEN, NOT_WHOLE, OUTSIDE, TOO_LONG, UNEQUAL,
     USED_UP,
 };
-use crate::slip::{nonce, Slip, SLIP_BYTES};
+use crate::slip::{nonce, Slip, Verdict, SLIP_BYTES};
 
 /// The bytes of a packed state.
 pub const STATE_BYTES: usize = 84;
@@ -168,11 +168,14 @@ impl State {
         Ok(())
     }
 
-    /// Whether the slip is genuine. Refusals: 7, 8.
-    pub fn check(&self, slip: &[u8]) -> Result<bool, u64> {
+    /// Whether the slip is genuine, and if it is, whether its number is the
+    /// last used, a smaller or a larger one. Refusals: 7, 8.
+    pub fn check(&self, slip: &[u8]) -> Result<Verdict, u64> {
         refuse(&[self.passes_the_limit()])?;
         let slip = Slip::open(slip)?;
-        Ok(slip.length == self.n && slip.arm == self.arm && slip.tag == self.tag(&slip.nonce()))
+        let genuine =
+            slip.length == self.n && slip.arm == self.arm && slip.tag == self.tag(&slip.nonce());
+        Ok(slip.verdict(genuine, self.last))
     }
 
     /// The state's tag under a nonce: (S + L) times H, plus AES(key, J). The

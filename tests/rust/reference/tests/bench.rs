@@ -4,7 +4,7 @@ use reference::field::{multiply, seek_steps, Block, ONE, ZERO};
 use reference::ghash::{ghash, gmac};
 use reference::random::Random;
 use reference::refusal::MAX_BYTES;
-use reference::{Machine, Slip, State};
+use reference::{Machine, Slip, State, Verdict};
 
 const KEY: [u8; 16] = *b"a key for a test";
 
@@ -149,7 +149,7 @@ fn slip_beginning() {
         let opened = Slip::open(&slip).unwrap();
         assert_eq!((opened.length, opened.arm, opened.number), (40, 7, 1));
         assert_eq!(opened.tag, gmac(&KEY, &slip[8..20], &[fill; 40]));
-        assert_eq!(state.check(&slip), Ok(true));
+        assert_eq!(state.check(&slip), Ok(Verdict::Current));
     }
 }
 

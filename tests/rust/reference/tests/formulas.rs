@@ -6,7 +6,7 @@ use reference::ghash::{blocks_of, ghash, hash_key, pair_block, sum};
 use reference::random::Random;
 use reference::refusal::MAX_BYTES;
 use reference::state::STATE_BYTES;
-use reference::State;
+use reference::{State, Verdict};
 
 /// A state with random fields and a length below `limit`.
 fn any_state(random: &mut Random, limit: u64) -> State {
@@ -180,7 +180,8 @@ fn a_zero_hash_key() {
     assert_eq!((state.s, state.n), (ZERO, 48));
 }
 
-/// Seal and check of any fields: (S + L) times H, plus AES(key, J).
+/// Seal and check of any fields: (S + L) times H, plus AES(key, J). The last
+/// used number has no part in it, and decides between the three verdicts.
 #[test]
 fn tags_of_any_state() {
     let mut random = Random::for_test(37);
@@ -198,8 +199,10 @@ fn tags_of_any_state() {
         let mask = reference::aes::encrypt(&before.key, &counter);
         let tag = add(&multiply(&sum, &before.h), &mask);
         assert_eq!(slip[20..], tag);
-        assert_eq!(state.check(&slip), Ok(true));
-        assert_eq!(before.check(&slip), Ok(true), "the number has no part");
+        assert_eq!(state.check(&slip), Ok(Verdict::Current));
+        assert_eq!(before.check(&slip), Ok(Verdict::Ahead));
+        state.last = u64::MAX - random.below(u64::MAX - last);
+        assert_eq!(state.check(&slip), Ok(Verdict::Stale));
     }
 }
 

@@ -3,7 +3,7 @@
 
 use reference::ghash::gmac;
 use reference::random::{copy_front, copy_tail, Random};
-use reference::{Machine, Slip, State};
+use reference::{Machine, Slip, State, Verdict};
 
 /// The pair under test, and what the list has gathered so far.
 struct Pair {
@@ -128,10 +128,25 @@ impl Pair {
         assert_eq!(slip[..20], expected[..20]);
         if truly {
             assert_eq!(slip, expected);
-            assert_eq!(self.machine.check(&slip), Ok(true));
+            assert_eq!(self.machine.check(&slip), Ok(Verdict::Current));
         }
-        assert_eq!(self.state.check(&slip), Ok(true));
+        assert_eq!(self.state.check(&slip), Ok(Verdict::Current));
         self.slips.push(slip.try_into().unwrap());
+    }
+
+    /// The slip of an accepted seal of both.
+    fn sealed(&mut self) -> [u8; 36] {
+        let (mut slip, mut expected) = ([0; 36], [0; 36]);
+        self.state.seal(&mut slip).unwrap();
+        self.machine.seal(&mut expected).unwrap();
+        assert_eq!(slip, expected);
+        slip
+    }
+
+    /// A check by both, held to what it must find.
+    fn both_find(&self, slip: &[u8], expected: Result<Verdict, u64>) {
+        assert_eq!(self.state.check(slip), expected, "{slip:02x?}");
+        assert_eq!(self.machine.check(slip), expected, "{slip:02x?}");
     }
 
     /// A check by both of an earlier slip, whole or damaged.
@@ -298,28 +313,35 @@ fn one_damaged_bit() {
     let mut random = Random::for_test(44);
     for _ in 0..5 {
         let mut pair = Pair::read(&mut random, 9);
-        let mut slip = [0; 36];
-        pair.state.seal(&mut slip).unwrap();
+        let slip = pair.sealed();
         for bit in 0..36 * 8 {
             let mut damaged = slip;
             damaged[bit / 8] ^= 0x80 >> (bit % 8);
-            let expected = if bit < 3 { Err(8) } else { Ok(false) };
-            assert_eq!(pair.state.check(&damaged), expected, "bit {bit}");
-            assert_eq!(pair.machine.check(&damaged), expected, "bit {bit}");
+            let expected = if bit < 3 {
+                Err(8)
+            } else {
+                Ok(Verdict::NotGenuine)
+            };
+            pair.both_find(&damaged, expected);
         }
-        assert_eq!(pair.state.check(&slip), Ok(true));
-        assert_eq!(pair.machine.check(&slip), Ok(true));
+        pair.both_find(&slip, Ok(Verdict::Current));
     }
 }
 
-/// Slips well made by hand: only the length, the arm and the tag decide, and
-/// a number that no seal has used yet is no hindrance.
+/// Slips well made by hand: the length, the arm and the tag decide whether they
+/// are genuine, whatever the number is, and the number decides how.
 #[test]
 fn slips_made_by_hand() {
     let mut random = Random::for_test(45);
-    for _ in 0..100 {
+    let numbers = [
+        (0, Verdict::Stale),
+        (8, Verdict::Stale),
+        (9, Verdict::Current),
+        (10, Verdict::Ahead),
+        (u64::MAX, Verdict::Ahead),
+    ];
+    for (number, verdict) in [numbers; 40].concat() {
         let pair = Pair::read(&mut random, 9);
-        let number = random.number();
         let arm = pair.machine.arm ^ u32::from(random.once_in(3));
         let length = pair.machine.n() + u64::from(random.once_in(3));
         let nonce = reference::slip::nonce(arm, number);
@@ -331,7 +353,33 @@ fn slips_made_by_hand() {
             tag,
         };
         let genuine = arm == pair.machine.arm && length == pair.machine.n();
-        assert_eq!(pair.state.check(&slip.pack()), Ok(genuine));
-        assert_eq!(pair.machine.check(&slip.pack()), Ok(genuine));
+        let expected = if genuine {
+            verdict
+        } else {
+            Verdict::NotGenuine
+        };
+        pair.both_find(&slip.pack(), Ok(expected));
+    }
+}
+
+/// A card is sealed, changed and sealed, changed back and sealed: the first
+/// slip is of the bytes that are held again, and it is stale.
+#[test]
+fn a_card_put_back() {
+    let mut random = Random::for_test(46);
+    for last in [0, 9, u64::MAX - 3] {
+        let mut pair = Pair::read(&mut random, last);
+        pair.edit(|s| s.append(b"A"), |m| m.append(b"A"));
+        let p = pair.machine.n() - 1;
+        let first = pair.sealed();
+        pair.edit(|s| s.change(p, b"A", b"B"), |m| m.change(p, b"A", b"B"));
+        pair.both_find(&first, Ok(Verdict::NotGenuine));
+        let second = pair.sealed();
+        pair.edit(|s| s.change(p, b"B", b"A"), |m| m.change(p, b"B", b"A"));
+        pair.both_find(&first, Ok(Verdict::Stale));
+        let third = pair.sealed();
+        pair.both_find(&first, Ok(Verdict::Stale));
+        pair.both_find(&second, Ok(Verdict::NotGenuine));
+        pair.both_find(&third, Ok(Verdict::Current));
     }
 }

@@ -45,6 +45,38 @@ pub const FILE_LENGTHS: [u64; 14] = [
 /// Seal numbers at both ends.
 pub const NUMBERS: [u64; 7] = [0, 1, 255, 1 << 32, u64::MAX - 2, u64::MAX - 1, u64::MAX];
 
+/// Last used seal numbers: both ends, and around the halves' and the sign's
+/// borders.
+pub const LASTS: [u64; 16] = [
+    0,
+    1,
+    2,
+    255,
+    1 << 31,
+    u32::MAX as u64,
+    1 << 32,
+    (1 << 32) + 1,
+    (1 << 63) - 1,
+    1 << 63,
+    (1 << 63) + 1,
+    0x0123_4567_89ab_cdef,
+    0xfedc_ba98_7654_3210,
+    u64::MAX - (1 << 32),
+    u64::MAX - 1,
+    u64::MAX,
+];
+
+/// Seal numbers to hold against a last used one: itself and its neighbours,
+/// those of `LASTS`, itself with its halves exchanged, and those that differ
+/// from it in one bit, or in all bits of one half.
+pub fn numbers_around(last: u64) -> Vec<u64> {
+    let neighbours = [last.wrapping_sub(1), last, last.wrapping_add(1)];
+    let halves = [last ^ (u64::MAX >> 32), last ^ (u64::MAX << 32)];
+    let bits = (0..64).map(|bit| last ^ (1 << bit));
+    let numbers = neighbours.into_iter().chain(halves).chain(bits);
+    numbers.chain([last.rotate_left(32)]).chain(LASTS).collect()
+}
+
 /// Arm numbers at both ends.
 pub const ARMS: [u32; 4] = [0, 7, 1 << 31, u32::MAX];
 

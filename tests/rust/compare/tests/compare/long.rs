@@ -104,5 +104,5 @@ pub fn sealed_and_checked(case: &mut Case, mut lent: Lent) {
     assert_eq!(case.call(&Call::Seal, &mut lent), 0);
     let slip = lent.out.clone();
     assert_eq!(case.call(&Call::Check { slip }, &mut lent), 0);
-    assert_eq!(lent.verdict, 1, "the slip just sealed is genuine");
+    assert_eq!(lent.verdict, 1, "the slip just sealed is current");
 }

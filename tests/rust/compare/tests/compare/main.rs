@@ -77,6 +77,9 @@ const PARTS: &[Part] = &[
         blanks::powers_of_two,
     ),
     ("blank files of any length", 600, blanks::any_length),
+    ("slips of every number", 48, slips::every_number),
+    ("lists of a card's week", 300, lists::a_week),
+    ("lists of every verdict", 1, lists::every_verdict),
 ];
 
 fn main() {

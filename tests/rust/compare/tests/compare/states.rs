@@ -4,7 +4,10 @@ use armfile::{MAX_BYTES, STATE_BYTES};
 use compare::{Call, Case, Lent};
 use reference::State;
 
-use crate::choose::{block, one_of, output, ARMS, FILE_LENGTHS, LENGTHS, NUMBERS, SIZES};
+use crate::choose::{
+    block, numbers_around, one_of, output, ARMS, FILE_LENGTHS, LENGTHS, NUMBERS, SIZES,
+};
+use crate::slips::{by_number, expect};
 
 /// A state of random bytes, to be overwritten or to be left.
 fn random_lent(case: &mut Case) -> Lent {
@@ -128,10 +131,20 @@ pub fn arbitrary(case: &mut Case) {
             slip = after.out;
         }
     }
-    // The slip of an arbitrary state is genuine to that state.
     if !slip.is_empty() {
-        let call = Call::Check { slip };
-        assert_eq!(case.call(&call, &mut lent), 0);
-        assert_eq!(lent.verdict, 1, "a slip is genuine to its state");
+        genuine_to_its_state(case, &lent, &slip);
+    }
+}
+
+/// The slip that an arbitrary state sealed is genuine to that state, whatever
+/// its last used number is.
+fn genuine_to_its_state(case: &mut Case, lent: &Lent, slip: &[u8]) {
+    let before = lent.fields().last;
+    let number = before + 1;
+    let any = one_of(&mut case.random, &numbers_around(number));
+    for last in [before, number, any] {
+        let mut lent = lent.clone();
+        lent.state[76..].copy_from_slice(&last.to_be_bytes());
+        expect(case, &lent, slip, Ok(by_number(number, last)));
     }
 }

@@ -1,6 +1,6 @@
 -- `file::states::State::check` meets its contract. Each return by its own law of `SealReturns`: the refusals, a wrong length, a wrong arm, and the two
 -- verdicts on the tag.
-use mathlib.Core.Path.{sym, _∙_}
+use mathlib.Core.Path.{refl, sym, _∙_}
 use borrow.Author.Needs.{needs}
 use Rattle.file.proofs.SealReturns.{check-refused, check-short, check-length, check-arm, check-tag}
 use Rattle.file.proofs.states.State.check.Statement.{statement}
@@ -42,13 +42,17 @@ tag-under-requires c κs =
 same-requires : tie.Need-same-requires
 same-requires c κs = search needs
 
+by-number-requires : tie.Need-by-number-requires
+by-number-requires c κs = search needs
+
 returns-4 : tie.Need-returns-4
 returns-4 c =
-    let arm = c .before .before .before .before in
+    let arm = c .before .before .before .before .before in
     let length = arm .before .before .before in
     let slip = length .before .before .before .before in
     check-tag _ _ _ (slip .before .before .open-for .ensures) (slip .o .given .1)
-    (length .if1 .left) (arm .if2 .left) (c .before .before .tag-under .ensures) (sym (c .if3 .taken) ∙ c .before .same .ensures)
+    (length .if1 .left) (arm .if2 .left) (c .before .before .before .tag-under .ensures)
+    (sym (c .before .if3 .taken) ∙ c .before .before .same .ensures) (c .by-number .ensures)
 
 returns-5 : tie.Need-returns-5
 returns-5 c =
@@ -56,7 +60,7 @@ returns-5 c =
     let length = arm .before .before .before in
     let slip = length .before .before .before .before in
     check-tag _ _ _ (slip .before .before .open-for .ensures) (slip .o .given .1)
-    (length .if1 .left) (arm .if2 .left) (c .before .before .tag-under .ensures) (sym (c .if3 .left) ∙ c .before .same .ensures)
+    (length .if1 .left) (arm .if2 .left) (c .before .before .tag-under .ensures) (sym (c .if3 .left) ∙ c .before .same .ensures) refl
 
 pub check-spec : {M : Type 1} → statement M
 check-spec =
@@ -71,5 +75,6 @@ check-spec =
     returns-3
     tag-under-requires
     same-requires
+    by-number-requires
     returns-4
     returns-5)
