@@ -19,8 +19,8 @@ ghost use Rattle.file.specs.declared.sealing.Verdict.the-variants.{NotGe
 ghost use Rattle.file.specs.Slips.{sealRefusal, sealed, byNumber, checked, stateTag};
 ghost use Rattle.file.specs.Contracts.{answerRefusal, sealAnswer, checkAnswer, openedOf};
 
-// What a check finds of a slip: it is not genuine, or it is, and then its seal number stands beside the last used one. Only Current is the slip
-// of the newest seal: who takes every genuine slip takes an old card too.
+// What a check finds of a slip: it is not genuine; or it is, and its seal number is the last used one, a smaller or a larger. Only Current is
+// the slip of the newest seal: who takes every genuine slip takes an old card too.
 pub enum Verdict {
     // Its length, its arm or its tag is not that of the file held.
     NotGenuine,
