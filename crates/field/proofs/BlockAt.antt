@@ -1,8 +1,8 @@
 -- Laws of a byte list's blocks: the blocks of a joined, a padded and an added list, that every block is small, and that a block's
 -- bytes are read back as the block. They rest on the laws of numbers as bytes (`Bytes`, `XorBytes`) and of blocks (`Values`).
-use mathlib.Core.Path.{_≡_, refl, ap, _∙_}
+use mathlib.Core.Path.{_≡_, refl, sym, ap, _∙_}
 use mathlib.Core.List.{List, _++_}
-use Prim.Native.Nat.{ℕ, suc, _+_, _*_, _^_, _≤_, _<_}
+use Prim.Native.Nat.{ℕ, suc, _+_, _*_, _%_, _^_, _≤_, _<_}
 use native.Mathlib.Nat.{mod-eq-of-lt}
 use native.Mathlib.Omega.{arith}
 use lib.ListN.{length, getD, take, drop, replicate}
@@ -13,7 +13,7 @@ use Rattle.field.specs.Blocks.{_⊕_, zeroBlock, Small, value, block, bl
 use Rattle.field.proofs.Values.{value-lt, value-block, block-value, small-block}
 use Rattle.field.proofs.Ring.{value-⊕, block-xor}
 use Rattle.field.proofs.Bytes.{number-lt, number-append-left, number-append-right, number-drop, number-past, number-padded, number-zeros}
-use Rattle.field.proofs.Bytes.{number-bytes, bytes-number, length-bytes}
+use Rattle.field.proofs.Bytes.{number-same, number-bytes, bytes-number, length-bytes}
 use Rattle.field.proofs.XorBytes.{number-xor, bytes-xor}
 
 -- ---- the blocks of a list
@@ -55,6 +55,13 @@ blockAt-past s i h = ap block (number-past s (16 * i) 16 h)
 pub blockAt-zeros : (r i : ℕ) → blockAt (replicate r 0) i ≡ zeroBlock
 unfolding blockAt zeroBlock
 blockAt-zeros r i = ap block (number-zeros r (16 * i) 16)
+
+-- one block is of the same bytes, each by its eight bits
+pub blockAt-same : (s t : List ℕ) (i j : ℕ) → blockAt s i ≡ blockAt t i → j < 16 → getD s (16 * i + j) 0 % 256 ≡ getD t (16 * i + j) 0 % 256
+unfolding blockAt
+blockAt-same s t i j e =
+    number-same s t (16 * i) 16
+    (sym (value-block _ (number-lt s (16 * i) 16)) ∙ ap value e ∙ value-block _ (number-lt t (16 * i) 16)) j
 
 -- the block of a sum is the sum of the blocks
 pub blockAt-xor : (s t : List ℕ) (i : ℕ) → blockAt (xorBytes s t) i ≡ blockAt s i ⊕ blockAt t i

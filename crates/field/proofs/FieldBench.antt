@@ -30,7 +30,7 @@ x-top : block (2 ^ 126) • block 1 ≡ block (0xe1 * 2 ^ 120)
 x-top = •-x 1 (lit< tt) ∙ unfold shifted only xor R in refl
 
 -- GHASH of one block v and the lengths l, in two products
-two-products : (h : Block) (v l w z : ℕ) → v < 2 ^ 128 → l < 2 ^ 128 → w < 2 ^ 128 → block v • h ≡ block w → block (xor w l) • h ≡ block z
+pub two-products : (h : Block) (v l w z : ℕ) → v < 2 ^ 128 → l < 2 ^ 128 → w < 2 ^ 128 → block v • h ≡ block w → block (xor w l) • h ≡ block z
     → ((zeroBlock ⊕ block v) • h ⊕ block l) • h ≡ block z
 two-products h v l w z p q r e f =
     ap (λ (b : Block). (b • h ⊕ block l) • h) (zero-⊕ (block v) (small-block v p))

@@ -28,7 +28,7 @@ square-⊕ a b = unfold _•_ _⊕_ in ap block numbers
     numbers = simp (value-⊕, value-•) (times-square-xor _ _ (value-lt a) (value-lt b))
 
 -- one more factor of two in the exponent is one squaring
-power-double : (b : Block) (k : ℕ) → power b (2 ^ suc k) ≡ power b (2 ^ k) • power b (2 ^ k)
+pub power-double : (b : Block) (k : ℕ) → power b (2 ^ suc k) ≡ power b (2 ^ k) • power b (2 ^ k)
 power-double b k = ap (power b) (two-pow-succ k) ∙ power-add b (2 ^ k) (2 ^ k)
 
 -- the power 2 ^ k of a sum is the sum of the powers
@@ -42,7 +42,7 @@ power-⊕ a b (suc k) =
     ∙ sym (ap₂ _⊕_ (power-double a k) (power-double b k))
 
 -- 2 ^ k is never 0, so this power of nothing is nothing
-power-of-zero : (k : ℕ) → power zeroBlock (2 ^ k) ≡ zeroBlock
+pub power-of-zero : (k : ℕ) → power zeroBlock (2 ^ k) ≡ zeroBlock
 power-of-zero zero = power-one zeroBlock small-zero
 power-of-zero (suc k) = power-double zeroBlock k ∙ ap (λ (c : Block). c • c) (power-of-zero k) ∙ •-zero zeroBlock
 

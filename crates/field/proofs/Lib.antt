@@ -1,5 +1,5 @@
 -- The field's laws, from the bottom up. The layers above use those of Values, Ring, Powers, Bytes, XorBytes, BlockAt,
--- BlockCounts, Horner, Sums, Blank, Hash, Stream, Steps, FieldBench and Stores; the others serve these or this crate's functions.
+-- BlockCounts, Horner, Sums, Blank, Hash, Counting, Collisions, Stream, Steps, FieldBench and Stores; the others serve these or this crate's functions.
 pub mod Span
 pub mod Recursion
 pub mod Product
@@ -9,6 +9,9 @@ pub mod Powers
 pub mod ComputedTests
 pub mod Squares
 pub mod Frobenius
+pub mod Polynomials
+pub mod Conjugates
+pub mod Inverses
 pub mod Reduction
 pub mod Bytes
 pub mod XorBytes
@@ -17,9 +20,12 @@ pub mod BlockCounts
 pub mod Horner
 pub mod Sums
 pub mod Hash
+pub mod Counting
+pub mod Collisions
 pub mod Stream
 pub mod Steps
 pub mod FieldBench
+pub mod Reached
 pub mod ReductionWords
 pub mod Words
 pub mod Stores

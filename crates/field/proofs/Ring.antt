@@ -1,6 +1,6 @@
 -- The laws of blocks under ⊕ and •: a commutative ring with unit, in which every element added to itself is nothing.
 -- Only the laws that give a block back ask that it be small, since `value` reads a word by its 64 bits.
--- Rests on Xor, Product and Values.
+-- Rests on Xor, Recursion, Product and Values.
 use mathlib.Core.Path.{_≡_, sym, ap, ap₂, _∙_}
 use Prim.Native.Nat.{ℕ, _^_, _<_}
 use Rattle.field.specs.declared.blocks.Block.{Block}
@@ -9,6 +9,7 @@ use Rattle.field.specs.Elements.{times}
 use Rattle.field.specs.Blocks.{value, block, Small, zeroBlock, one, _⊕_, _•_}
 use Rattle.clmul.proofs.Commutative.{swap}
 use Rattle.clmul.proofs.Xor as x
+use Rattle.field.proofs.Recursion.{mul, times-mul}
 use Rattle.field.proofs.Product as p
 use Rattle.field.proofs.Values.{value-lt, value-block, block-value, small-block, value-zero, value-one}
 
@@ -37,6 +38,10 @@ block-xor a b p q = ap block (sym (ap₂ xor (value-block a p) (value-block b q)
 pub block-times : (a b : ℕ) → a < 2 ^ 128 → b < 2 ^ 128 → block (times a b) ≡ block a • block b
 unfolding _•_
 block-times a b p q = ap block (sym (ap₂ times (value-block a p) (value-block b q)))
+
+-- the product by the recursion of Recursion, to be computed
+pub block-mul : (a b : ℕ) → a < 2 ^ 128 → b < 2 ^ 128 → block a • block b ≡ block (mul 128 a b)
+block-mul a b p q = sym (block-times a b p q) ∙ ap block (times-mul a b)
 
 -- the sum
 
@@ -67,6 +72,17 @@ pub ⊕-swap : (a b c d : Block) → a ⊕ b ⊕ (c ⊕ d) ≡ a ⊕ c ⊕ (b �
 -- what is added twice is gone
 pub ⊕-cancel : (a b : Block) → Small b → a ⊕ (a ⊕ b) ≡ b
 ⊕-cancel a b s = sym (⊕-assoc a a b) ∙ ap (λ (c : Block). c ⊕ b) (⊕-self a) ∙ zero-⊕ b s
+
+-- and so is what is added on both sides
+pub ⊕-cancel-l : (a b c : Block) → c ⊕ a ⊕ (c ⊕ b) ≡ a ⊕ b
+⊕-cancel-l a b c = ⊕-swap c a c b ∙ ap (λ (d : Block). d ⊕ (a ⊕ b)) (⊕-self c) ∙ zero-⊕ (a ⊕ b) (small-⊕ a b)
+
+pub ⊕-cancel-r : (a b c : Block) → a ⊕ c ⊕ (b ⊕ c) ≡ a ⊕ b
+⊕-cancel-r a b c = ap₂ _⊕_ (⊕-comm a c) (⊕-comm b c) ∙ ⊕-cancel-l a b c
+
+-- what adds up to nothing is the same
+pub ⊕-same : {a b : Block} → Small a → Small b → a ⊕ b ≡ zeroBlock → a ≡ b
+⊕-same {a} {b} s t e = sym (⊕-zero a s) ∙ ap (_⊕_ a) (sym e) ∙ ⊕-cancel a b t
 
 -- the product
 

@@ -10,4 +10,5 @@ pub mod Contracts
 pub mod Streams
 pub mod Answers
 pub mod FieldBench
+pub mod Strength
 pub mod Field

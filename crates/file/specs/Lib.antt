@@ -7,6 +7,7 @@ pub mod Calls
 pub mod Machine
 pub mod Runs
 pub mod Demands
+pub mod Strength
 pub mod Met
 pub mod BenchCases
 pub mod Contracts

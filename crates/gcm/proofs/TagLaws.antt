@@ -7,6 +7,7 @@ use borrow.Author.Tests.{eq-eqb, ne-eqb}
 use Rattle.cipher.specs.Aes.{aes}
 use Rattle.field.specs.declared.blocks.Block.{Block}
 use Rattle.field.specs.Field.{Small, bytes, _⊕_, _•_, bytesOf, blockAt, sum, lengthBlock, ghash, maxBytes}
+use Rattle.field.proofs.Ring.{small-⊕, ⊕-cancel-r}
 use Rattle.field.proofs.Hash.{ghash-empty}
 use Rattle.field.proofs.BlockAt.{small-blockAt}
 use Rattle.gcm.specs.Gmac.{hashKey, J, pad, gmac, tagOf}
@@ -49,3 +50,14 @@ tag-gmac key a nonce l = ap (λ (b : Block). b ⊕ pad key (hashKey key) nonce) 
 pub small-hash : (key : List ℕ) → Small (hashKey key)
 unfolding hashKey
 small-hash key = small-blockAt _ 0
+
+-- ---- two files under one nonce
+
+pub small-gmac : (key nonce a : List ℕ) → Small (gmac key nonce a)
+unfolding gmac
+small-gmac key nonce a = small-⊕ _ _
+
+-- what hides the hashes is the same, so that the tags differ as the hashes do
+pub gmac-difference : (key nonce a b : List ℕ) → gmac key nonce a ⊕ gmac key nonce b ≡ ghash (hashKey key) a [] ⊕ ghash (hashKey key) b []
+unfolding gmac
+gmac-difference key nonce a b = ⊕-cancel-r _ _ _

@@ -7,7 +7,8 @@
 //!
 //! The inputs are chosen in `tests/compare`. `tests/vectors.rs` puts the
 //! published vectors through the library, `tests/claimed.rs` lengths that only
-//! C can claim, and `tests/counts.rs` inputs too long for `reference`.
+//! C can claim, `tests/counts.rs` inputs too long for `reference`, and
+//! `tests/strength.rs` hash keys under which files collide.
 
 #![forbid(unsafe_code)]
 
