@@ -1,16 +1,16 @@
 -- Laws of numbers as big-endian bytes: the number in a list that is joined or padded and in a part of a list, what the bytes of a
 -- number are, and that they are read back as the number.
 use mathlib.Core.Path.{_≡_, refl, sym, ap, ap₂, _∙_}
-use mathlib.Core.Logic.{_⊎_, inl, inr}
 use mathlib.Core.List.{List, [], _∷_, _++_, append-nil, append-assoc}
 use Prim.Native.Nat.{ℕ, zero, suc, _+_, _*_, _/_, _%_, _^_, _≤_, _<_}
-use native.Mathlib.Nat.{le-refl, le-step, le-of-suc-le-suc, not-suc-le-zero, eq-or-lt-of-le, le-of-eq, zero-lt-suc, add-zero, zero-add, add-suc, add-assoc, mul-one, mul-assoc, one-le-pow}
+use native.Mathlib.Nat.{le-refl, le-step, not-suc-le-zero, le-of-eq, zero-lt-suc, add-zero, zero-add, add-suc, add-assoc, mul-one, mul-assoc, one-le-pow}
 use native.Mathlib.Nat.{pow-suc, mod-lt, mod-mod, mod-one, div-lt-iff-lt-mul, mul-add-mod-self-right, mul-add-div-right, add-mul}
 use native.Mathlib.Omega.{arith}
 use lib.ListN.{length, getD, take, drop, replicate, length-append, length-drop, List·getD-append, List·getD-eq-default}
 use lib.Seq.{getD-append-add, getD-at, getD-take, getD-drop, take-suc}
 use lib.Arith.{digits-lt, mod-mul, lt-one}
 use Rattle.field.specs.Bytes.{number, bytes}
+use Rattle.field.proofs.ComputedTests.{and-next}
 
 -- what the laws of division by 256 ask
 byte-pos : 0 < 256
@@ -33,11 +33,7 @@ pub number-same : (s t : List ℕ) (at k : ℕ) → number s at k ≡ number t a
 unfolding number
 number-same s t at zero e j l = absurd (not-suc-le-zero l)
 number-same s t at (suc k) e j l =
-    by (eq-or-lt-of-le (le-of-suc-le-suc l)) (number-same s t at k (omega arith) j)
-  where
-    by : (j ≡ k) ⊎ (j < k) → (j < k → getD s (at + j) 0 % 256 ≡ getD t (at + j) 0 % 256) → getD s (at + j) 0 % 256 ≡ getD t (at + j) 0 % 256
-    by (inl f) before = rw f (omega arith)
-    by (inr m) before = before m
+    and-next (λ (j : ℕ). getD s (at + j) 0 % 256 ≡ getD t (at + j) 0 % 256) k (omega arith) (number-same s t at k (omega arith)) j l
 
 -- k bytes hold a number below 256 ^ k
 pub number-lt : (s : List ℕ) (at k : ℕ) → number s at k < 256 ^ k

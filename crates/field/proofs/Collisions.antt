@@ -4,10 +4,10 @@
 -- Rests on Polynomials, Inverses, Counting and Hash.
 use mathlib.Core.Path.{_≡_, refl, sym, ap, ap₂, _∙_}
 use mathlib.Core.Bool.{true}
-use mathlib.Core.Logic.{_≢_, _⊎_, inl, inr}
+use mathlib.Core.Logic.{_≢_}
 use mathlib.Core.List.{List, [], _∷_}
 use Prim.Native.Nat.{ℕ, zero, suc, _+_, _*_, _/_, _%_, _^_, _≤_, _<_, suc-le-suc}
-use native.Mathlib.Nat.{le-trans, le-of-suc-le-suc, not-suc-le-zero, eq-or-lt-of-le, mod-eq-of-lt, lt-of-lt-of-le, lt-trans, lt-of-not-le}
+use native.Mathlib.Nat.{le-trans, le-of-suc-le-suc, not-suc-le-zero, mod-eq-of-lt, lt-of-lt-of-le, lt-trans, lt-of-not-le}
 use native.Mathlib.Omega.{arith}
 use lib.Arith.{digits-lt}
 use lib.Pow.{pow-pos, high}
@@ -19,9 +19,10 @@ use Rattle.field.specs.Blocks.{value, block, Small, zeroBlock, _⊕_, _�
 use Rattle.field.specs.Sums.{blocks}
 use Rattle.field.specs.Ghash.{Yᵢ, lengthBlock, ghash}
 use Rattle.field.specs.Answers.{maxBytes}
-use Rattle.field.specs.Strength.{DifferentKeys, howMany, AtMost, FileOf, differBy, FewCollide}
+use Rattle.field.specs.Strength.{DifferentKeys, howMany, AtMostKeys, FileOf, differBy, FewCollide}
 use Rattle.field.proofs.Values.{value-lt, block-value, small-block, small-zero}
 use Rattle.field.proofs.Ring.{small-⊕, small-•, ⊕-comm, ⊕-self, ⊕-same, zero-⊕, •-comm, •-⊕, •-zero}
+use Rattle.field.proofs.ComputedTests.{and-next}
 use Rattle.field.proofs.BlockAt.{small-blockAt, blockAt-same}
 use Rattle.field.proofs.BlockCounts.{le-blocks}
 use Rattle.field.proofs.Horner.{horner}
@@ -32,7 +33,7 @@ use Rattle.field.proofs.Counting.{at-most, fewer}
 
 -- a polynomial of at most n + 1 coefficients that isn't nothing vanishes at no more than n hash keys
 few-roots : (n : ℕ) (P : Block → Type 0) (p : List Block) → length p ≤ suc n → SmallAll p → (¬ Nothing p)
-    → ((h : Block) → Small h → P h → at h p ≡ zeroBlock) → AtMost n P
+    → ((h : Block) → Small h → P h → at h p ≡ zeroBlock) → AtMostKeys n P
 few-roots n P p l s not root = at-most n P (λ keys d has. le-of-suc-le-suc (lt-of-not-le (λ k. not (nothing keys d has k))))
   where
     nothing : (keys : List Block) → DifferentKeys keys → ((i : ℕ) → i < length keys → P (getD keys i zeroBlock)) → n < length keys → Nothing p
@@ -105,11 +106,7 @@ same-blocks : (s t : List ℕ) (m : ℕ) → ((i : ℕ) → getD (backwards s m)
     → (i : ℕ) → i < m → blockAt s i ≡ blockAt t i
 unfolding backwards
 same-blocks s t zero e i l = absurd (not-suc-le-zero l)
-same-blocks s t (suc m) e i l = by (eq-or-lt-of-le (le-of-suc-le-suc l)) (same-blocks s t m (λ j. e (suc j)) i)
-  where
-    by : (i ≡ m) ⊎ (i < m) → (i < m → blockAt s i ≡ blockAt t i) → blockAt s i ≡ blockAt t i
-    by (inl f) before = rw f (e 0)
-    by (inr k) before = before k
+same-blocks s t (suc m) e i l = and-next (λ (i : ℕ). blockAt s i ≡ blockAt t i) m (e 0) (same-blocks s t m (λ j. e (suc j))) i l
 
 same-file : (m : ℕ) (s t : List ℕ) → FileOf m s → FileOf m t
     → ((i : ℕ) → getD (polynomial s) i zeroBlock ≡ getD (polynomial t) i zeroBlock) → s ≡ t
@@ -124,10 +121,10 @@ same-file m s t f g e = ext-getD 0 s t l byte
 
     byte : (i : ℕ) → i < length s → getD s i 0 ≡ getD t i 0
     byte i k =
-        let at : i ≡ 16 * (i / 16) + i % 16 = omega arith in
-        sym (mod-eq-of-lt (f .bytes i k)) ∙ ap (λ (n : ℕ). getD s n 0 % 256) at
+        let place : i ≡ 16 * (i / 16) + i % 16 = omega arith in
+        sym (mod-eq-of-lt (f .bytes i k)) ∙ ap (λ (n : ℕ). getD s n 0 % 256) place
         ∙ blockAt-same s t (i / 16) (i % 16) (all (i / 16) (omega (arith, le-blocks (length s)))) (omega arith)
-        ∙ ap (λ (n : ℕ). getD t n 0 % 256) (sym at) ∙ mod-eq-of-lt (g .bytes i (rw l at k))
+        ∙ ap (λ (n : ℕ). getD t n 0 % 256) (sym place) ∙ mod-eq-of-lt (g .bytes i (rw l at k))
 
 -- ---- two files
 
@@ -158,7 +155,7 @@ module _ (m : ℕ) (a b : List ℕ) (f : FileOf m a) (g : FileOf m b) (n : a ≢
       ∙ ap (_•_ h) (sym (at-added h (polynomial a) (polynomial b)))
 
   -- at most k hash keys, where k is more than m
-  differ : (d : Block) (k : ℕ) → m < k → AtMost k (λ h. ghash h a [] ⊕ ghash h b [] ≡ d)
+  differ : (d : Block) (k : ℕ) → m < k → AtMostKeys k (λ h. ghash h a [] ⊕ ghash h b [] ≡ d)
   unfolding at
   differ d k l =
       few-roots k _ (block (value d) ∷ p) (suc-le-suc (le-trans length-p l)) small (λ e. not-p (λ i. e (suc i)))
@@ -170,7 +167,7 @@ module _ (m : ℕ) (a b : List ℕ) (f : FileOf m a) (g : FileOf m b) (n : a ≢
       small zero = small-block (value d) (value-lt d)
       small (suc i) = small-p i
 
-  same : (k : ℕ) → m < k → AtMost k (λ h. ghash h a [] ≡ ghash h b [])
+  same : (k : ℕ) → m < k → AtMostKeys k (λ h. ghash h a [] ≡ ghash h b [])
   same k l = fewer (λ h e. ap (λ (x : Block). x ⊕ ghash h b []) e ∙ ⊕-self _) (differ zeroBlock k l)
 
   -- what passes the test
@@ -195,7 +192,7 @@ module _ (m : ℕ) (a b : List ℕ) (f : FileOf m a) (g : FileOf m b) (n : a ≢
             ap (λ (k : ℕ). lengthBlock (length a) 0 ⊕ lengthBlock k 0 ⊕ h • r) (sym l)
             ∙ ap (λ (c : Block). c ⊕ h • r) (⊕-self _) ∙ zero-⊕ (h • r) (small-• h r)
 
-    one-length : (k : ℕ) → m ≤ k → AtMost k (λ h. ghash h a [] ≡ ghash h b [])
+    one-length : (k : ℕ) → m ≤ k → AtMostKeys k (λ h. ghash h a [] ≡ ghash h b [])
     one-length k o =
         few-roots k _ p (le-trans length-p (suc-le-suc o)) small-p not-p
         (λ h s e. no-constant h s (sym (difference h) ∙ ap (λ (x : Block). x ⊕ ghash h b []) e ∙ ⊕-self _))

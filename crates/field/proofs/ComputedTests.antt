@@ -6,6 +6,14 @@ use Prim.Native.Nat.{ℕ, zero, suc, _<_}
 use native.Mathlib.Nat.{not-suc-le-zero, le-of-suc-le-suc, eq-or-lt-of-le}
 use lib.Dec.{T}
 
+-- what holds of all numbers below k, and of k, holds of all below k + 1
+pub and-next : (P : ℕ → Type 0) (k : ℕ) → P k → ((n : ℕ) → n < k → P n) → (n : ℕ) → n < suc k → P n
+and-next P k p q n h = at (eq-or-lt-of-le (le-of-suc-le-suc h))
+  where
+    at : (n ≡ k) ⊎ (n < k) → P n
+    at (inl e) = rw e p
+    at (inr l) = q n l
+
 -- the test f passes at 0 .. k - 1
 unfoldable pub every : (ℕ → Bool) → ℕ → Bool
 every f zero = true
@@ -19,8 +27,4 @@ pub every-at : (f : ℕ → Bool) (k : ℕ) → T (every f k) → (n : ℕ) → 
 unfolding every
 every-at f zero t n h = absurd (not-suc-le-zero h)
 every-at f (suc k) t n h =
-    at (eq-or-lt-of-le (le-of-suc-le-suc h)) (both (f k) (every f k) t .0) (every-at f k (both (f k) (every f k) t .1))
-  where
-    at : (n ≡ k) ⊎ (n < k) → T (f k) → ((m : ℕ) → m < k → T (f m)) → T (f n)
-    at (inl e) p q = rw e p
-    at (inr l) p q = q n l
+    and-next (λ (n : ℕ). T (f n)) k (both (f k) (every f k) t .0) (every-at f k (both (f k) (every f k) t .1)) n h

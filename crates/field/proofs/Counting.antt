@@ -8,7 +8,7 @@ use native.Mathlib.Nat.{le-refl, le-step, le-trans, le-of-suc-le, le-of-suc-le-s
 use lib.ListN.{length, getD}
 use Rattle.field.specs.declared.blocks.Block.{Block}
 use Rattle.field.specs.Blocks.{value, block, Small, zeroBlock}
-use Rattle.field.specs.Strength.{DifferentKeys, passing, howMany, AtMost}
+use Rattle.field.specs.Strength.{DifferentKeys, passing, howMany, AtMostKeys}
 use Rattle.field.proofs.Values.{value-block, small-block}
 
 -- a block that passes the test, of a number below n
@@ -64,7 +64,7 @@ module _ (test : Block → Bool) where
 
 -- a bound of all sequences is one of the number
 pub at-most : (n : ℕ) (P : Block → Type 0)
-    → ((keys : List Block) → DifferentKeys keys → ((i : ℕ) → i < length keys → P (getD keys i zeroBlock)) → length keys ≤ n) → AtMost n P
+    → ((keys : List Block) → DifferentKeys keys → ((i : ℕ) → i < length keys → P (getD keys i zeroBlock)) → length keys ≤ n) → AtMostKeys n P
 unfolding howMany
 at-most n P sequences = record { sequences = sequences; number = number }
   where
@@ -75,5 +75,5 @@ at-most n P sequences = record { sequences = sequences; number = number }
         (λ i k. has _ (p .each i k .pass))
 
 -- what has P has Q
-pub fewer : {n : ℕ} {P Q : Block → Type 0} → ((h : Block) → P h → Q h) → AtMost n Q → AtMost n P
+pub fewer : {n : ℕ} {P Q : Block → Type 0} → ((h : Block) → P h → Q h) → AtMostKeys n Q → AtMostKeys n P
 fewer {n} {P} f a = at-most n P (λ keys d has. a .sequences keys d (λ i k. f _ (has i k)))

@@ -14,9 +14,9 @@ use Rattle.field.specs.Blocks.{value, Small, zeroBlock, one, _⊕_, _•
 use Rattle.field.specs.Powers.{power, companion}
 use Rattle.field.specs.Strength.{IsField}
 use Rattle.clmul.proofs.Xor.{odd-lt}
-use Rattle.field.proofs.Values.{value-lt, value-block, block-value, small-block, value-zero, value-one}
+use Rattle.field.proofs.Values.{value-lt, value-block, block-value, small-block, small-zero, small-one, value-zero, value-one}
 use Rattle.field.proofs.Ring.{small-⊕, small-•, ⊕-comm, ⊕-assoc, ⊕-self, ⊕-zero, ⊕-same, •-comm, •-assoc, •-⊕, •-zero, •-one, one-•}
-use Rattle.field.proofs.Powers.{power-one}
+use Rattle.field.proofs.Powers.{power-one, small-companion}
 use Rattle.field.proofs.Frobenius.{power-double, companion-law}
 use Rattle.field.proofs.Polynomials.{at, Cancels, vanish}
 use Rattle.field.proofs.Conjugates.{coefficient, coefficients, length-coefficients, small-coefficients, coefficient-cases}
@@ -88,17 +88,20 @@ is-field =
     record {
       elements = λ v h. (small-block v h, value-block v h);
       numbers = λ a s. (value-lt a, block-value a s);
+      zero-in = small-zero;
       sum-in = small-⊕;
       sum-commutes = ⊕-comm;
       sum-associates = ⊕-assoc;
       zero = ⊕-zero;
       negative = ⊕-self;
+      one-in = small-one;
       product-in = small-•;
       product-commutes = •-comm;
       product-associates = •-assoc;
       distributes = •-⊕;
       unit = •-one;
       one-not-zero = one-not-zero;
+      inverse-in = small-companion;
       inverse = inverse;
       no-zero-product = λ a b s t m n e. n (cancels a s m b t e);
     }

@@ -19,7 +19,7 @@ use Rattle.field.specs.Blocks.{value, block, Small, zeroBlock, one, _⊕
 use Rattle.field.specs.Sums.{blocks, sum}
 use Rattle.field.specs.Ghash.{Yᵢ, padded, ghashInput, lengthBlock, ghash}
 use Rattle.field.specs.Answers.{maxBytes}
-use Rattle.field.specs.Strength.{howMany, FileOf, differBy, ownLength, firstBit, Reached}
+use Rattle.field.specs.Strength.{howMany, FileOf, differBy, ownLength, firstBit, BoundsReached}
 use Rattle.field.proofs.ComputedTests.{every, every-at}
 use Rattle.field.proofs.Span.{one-lt}
 use Rattle.field.proofs.Recursion.{mul, mul-lt}
@@ -174,7 +174,7 @@ past h n e f =
     let z = input n e f in
     rw (z .1) (Yᵢ-zeros h (z .0) (length {A = ℕ} (replicate (z .0) 0) / 16))
 
-pub reached : Reached
+pub reached : BoundsReached
 reached =
     record {
       files = (own-length, empty, not-empty);

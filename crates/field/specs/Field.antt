@@ -10,4 +10,4 @@ pub use Rattle.field.specs.Contracts.{causeNumber, answerRefusal, counte
 pub use Rattle.field.specs.Streams.{absorbedAll, finished, joined, Whole, none, last, more}
 pub use Rattle.field.specs.Answers.{maxBytes, multiplyRefusal, multiplyOutput, ghashRefusal, ghashOutput}
 pub use Rattle.field.specs.FieldBench.{FieldBench}
-pub use Rattle.field.specs.Strength.{IsField, DifferentKeys, passing, howMany, AtMost, FileOf, differBy, FewCollide, ownLength, firstBit, Reached}
+pub use Rattle.field.specs.Strength.{IsField, DifferentKeys, passing, howMany, AtMostKeys, FileOf, differBy, FewCollide, ownLength, firstBit, BoundsReached}

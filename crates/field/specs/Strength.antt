@@ -1,9 +1,9 @@
 -- How strong the hash is, beyond the demands: the blocks are a field, and of all 2^128 hash keys few give two different files the same hash. No document
 -- states it; SEAL.md, "How strong the seal is", says it in plain words.
 --
--- What it doesn't say. Hash keys are counted, not AES keys. H is AES(key, zero block): that it looks like any of the 2^128 blocks to who doesn't know the key
--- is assumed by everyone and proved by no one. So it is of AES(key, J), which hides a file's hash in its tag. And the two files are there before the
--- hash key is drawn: who knows H finds as many that collide under it as he likes.
+-- What it doesn't say. Hash keys are counted, not AES keys. H is AES(key, zero block): that to anyone without the key it looks like any of the 2^128 blocks
+-- is assumed by everyone and proved by no one. So it is of AES(key, J), which hides a file's hash in its tag. And the two files come before the hash
+-- key: whoever knows H finds as many as he likes that collide under it.
 use mathlib.Core.Path.{_≡_}
 use mathlib.Core.Bool.{Bool, true, cond}
 use mathlib.Core.Logic.{_≢_}
@@ -26,12 +26,14 @@ pub record IsField : Type 0 where
   pub elements : (v : ℕ) → v < 2 ^ 128 → Small (block v) × (value (block v) ≡ v)
   pub numbers : (a : Block) → Small a → (value a < 2 ^ 128) × (block (value a) ≡ a)
   -- sums
+  pub zero-in : Small zeroBlock
   pub sum-in : (a b : Block) → Small (a ⊕ b)
   pub sum-commutes : (a b : Block) → a ⊕ b ≡ b ⊕ a
   pub sum-associates : (a b c : Block) → a ⊕ b ⊕ c ≡ a ⊕ (b ⊕ c)
   pub zero : (a : Block) → Small a → a ⊕ zeroBlock ≡ a
   pub negative : (a : Block) → a ⊕ a ≡ zeroBlock
   -- products
+  pub one-in : Small one
   pub product-in : (a b : Block) → Small (a • b)
   pub product-commutes : (a b : Block) → a • b ≡ b • a
   pub product-associates : (a b c : Block) → a • b • c ≡ a • (b • c)
@@ -39,6 +41,7 @@ pub record IsField : Type 0 where
   pub unit : (a : Block) → Small a → a • one ≡ a
   pub one-not-zero : one ≢ zeroBlock
   -- H times I is one, where H isn't zero
+  pub inverse-in : (h : Block) → Small (companion h)
   pub inverse : (h : Block) → Small h → h ≢ zeroBlock → h • companion h ≡ one
   -- so no product of two that aren't zero is zero
   pub no-zero-product : (a b : Block) → Small a → Small b → a ≢ zeroBlock → b ≢ zeroBlock → a • b ≢ zeroBlock
@@ -60,7 +63,7 @@ unfoldable pub howMany : (Block → Bool) → ℕ
 howMany test = length (passing test (2 ^ 128))
 
 -- at most n hash keys have P
-pub record AtMost (n : ℕ) (P : Block → Type 0) : Type 0 where
+pub record AtMostKeys (n : ℕ) (P : Block → Type 0) : Type 0 where
   -- every sequence of different ones that all have P has at most n terms
   pub sequences : (keys : List Block) → DifferentKeys keys → ((i : ℕ) → i < length keys → P (getD keys i zeroBlock)) → length keys ≤ n
   -- and at most n of all 2^128 blocks pass a test that none passes but blocks with P
@@ -81,14 +84,14 @@ differBy a b d h = eqb (value (ghash h a [] ⊕ ghash h b [])) (value d)
 -- of two different files of at most m blocks each. Its proof is `few-collide` in proofs/Collisions
 pub record FewCollide : Type 0 where
   -- at most m + 1 hash keys give both the same hash
-  pub same : (m : ℕ) (a b : List ℕ) → FileOf m a → FileOf m b → a ≢ b → AtMost (m + 1) (λ h. ghash h a [] ≡ ghash h b [])
+  pub same : (m : ℕ) (a b : List ℕ) → FileOf m a → FileOf m b → a ≢ b → AtMostKeys (m + 1) (λ h. ghash h a [] ≡ ghash h b [])
   -- for every block d at most m + 1 give hashes that differ by d, which is what GMAC rests on
   pub differ :
-      (m : ℕ) (a b : List ℕ) → FileOf m a → FileOf m b → a ≢ b → (d : Block) → AtMost (m + 1) (λ h. ghash h a [] ⊕ ghash h b [] ≡ d)
+      (m : ℕ) (a b : List ℕ) → FileOf m a → FileOf m b → a ≢ b → (d : Block) → AtMostKeys (m + 1) (λ h. ghash h a [] ⊕ ghash h b [] ≡ d)
   pub number : (m : ℕ) (a b : List ℕ) → FileOf m a → FileOf m b → a ≢ b → (d : Block) → howMany (differBy a b d) ≤ m + 1
   -- where the files have one length, at most m give both the same hash
   pub one-length :
-      (m : ℕ) (a b : List ℕ) → FileOf m a → FileOf m b → a ≢ b → length a ≡ length b → AtMost m (λ h. ghash h a [] ≡ ghash h b [])
+      (m : ℕ) (a b : List ℕ) → FileOf m a → FileOf m b → a ≢ b → length a ≡ length b → AtMostKeys m (λ h. ghash h a [] ≡ ghash h b [])
   pub one-length-number :
       (m : ℕ) (a b : List ℕ) → FileOf m a → FileOf m b → a ≢ b → length a ≡ length b → howMany (differBy a b zeroBlock) ≤ m
 
@@ -101,7 +104,7 @@ unfoldable pub firstBit : List ℕ
 firstBit = 0x80 ∷ replicate 31 0
 
 -- how far these bounds go. Its proof is `reached` in proofs/Reached
-pub record Reached : Type 0 where
+pub record BoundsReached : Type 0 where
   -- m + 1 is reached for m = 1: under two hash keys the file of its own length and the empty one have the same hash
   pub files : FileOf 1 ownLength × FileOf 1 [] × (ownLength ≢ [])
   pub two : howMany (differBy ownLength [] zeroBlock) ≡ 2

@@ -6,7 +6,7 @@ use Prim.Native.Nat.{ℕ, _+_, _≤_, _<_, zero-le}
 use native.Mathlib.Nat.{zero-lt-suc}
 use lib.ListN.{length, getD}
 use Rattle.field.specs.declared.blocks.Block.{Block}
-use Rattle.field.specs.Field.{block, zeroBlock, _⊕_, ghash, DifferentKeys, AtMost, FileOf}
+use Rattle.field.specs.Field.{block, zeroBlock, _⊕_, ghash, DifferentKeys, AtMostKeys, FileOf}
 use Rattle.field.proofs.Values.{block-value}
 use Rattle.field.proofs.Ring.{⊕-same, ⊕-self}
 use Rattle.field.proofs.Counting.{at-most, fewer}
@@ -32,12 +32,12 @@ allowed arm a b slip other h e p =
     (ap (λ (n : ℕ). gmac key (nonceOf arm n) b) e ∙ sym (tag-block key arm b other (p .other-of-b)))
 
 module _ (m arm : ℕ) (a b : List ℕ) (f : FileOf m a) (g : FileOf m b) (n : a ≢ b) where
-  one-number : (slip other : List ℕ) → slipNumber slip ≡ slipNumber other → AtMost (m + 1) (Allows arm a b slip other)
+  one-number : (slip other : List ℕ) → slipNumber slip ≡ slipNumber other → AtMostKeys (m + 1) (Allows arm a b slip other)
   one-number slip other e =
       fewer (λ h p. allowed arm a b slip other h e p) (few-collide .differ m a b f g n (block (slipTag slip) ⊕ block (slipTag other)))
 
   -- one slip says one length
-  one-slip : (slip : List ℕ) → AtMost m (Allows arm a b slip slip)
+  one-slip : (slip : List ℕ) → AtMostKeys m (Allows arm a b slip slip)
   one-slip slip = at-most m (Allows arm a b slip slip) count
     where
       same : (h : Block) → Allows arm a b slip slip h → ghash h a [] ≡ ghash h b []

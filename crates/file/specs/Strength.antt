@@ -1,15 +1,15 @@
 -- How strong a slip is, beyond the demands: of all 2^128 hash keys few allow two different files slips with one seal number. No document states it; SEAL.md,
 -- "How strong the seal is", says it in plain words.
 --
--- What it doesn't say. Hash keys are counted, not AES keys: that H looks like any of the 2^128 blocks to who doesn't know the key, and AES(key, J) like
--- any block until J comes again, is assumed by everyone and proved by no one. Of a slip with a number that was never used, the second is all there is.
--- And a count of few hash keys is of use to an onlooker too: two slips with one number leave him these few to try.
+-- What it doesn't say. Hash keys are counted, not AES keys: that to anyone without the key H looks like any of the 2^128 blocks, and AES(key, J) too until
+-- J comes again, is assumed by everyone and proved by no one. Of a slip with a number that was never used, the second is all there is. And few
+-- hash keys are what an onlooker wants: two slips with one number leave him these to try.
 use mathlib.Core.Path.{_≡_}
 use mathlib.Core.Logic.{_≢_}
 use mathlib.Core.List.{List}
 use Prim.Native.Nat.{ℕ, _+_}
 use Rattle.field.specs.declared.blocks.Block.{Block}
-use Rattle.field.specs.Field.{AtMost, FileOf}
+use Rattle.field.specs.Field.{AtMostKeys, FileOf}
 use Rattle.gcm.specs.Gcm.{hashKey}
 use Rattle.file.specs.Slips.{slipNumber}
 use Rattle.file.specs.Demands.{SlipOf}
@@ -26,6 +26,6 @@ pub record FewSlips : Type 0 where
   -- at most m + 1 hash keys allow two slips with one seal number
   pub one-number :
       (m arm : ℕ) (a b slip other : List ℕ) → FileOf m a → FileOf m b → a ≢ b → slipNumber slip ≡ slipNumber other
-      → AtMost (m + 1) (Allows arm a b slip other)
+      → AtMostKeys (m + 1) (Allows arm a b slip other)
   -- at most m allow one slip for both, as of a wrong card beside the right slip
-  pub one-slip : (m arm : ℕ) (a b slip : List ℕ) → FileOf m a → FileOf m b → a ≢ b → AtMost m (Allows arm a b slip slip)
+  pub one-slip : (m arm : ℕ) (a b slip : List ℕ) → FileOf m a → FileOf m b → a ≢ b → AtMostKeys m (Allows arm a b slip slip)
