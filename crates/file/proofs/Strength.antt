@@ -4,6 +4,7 @@ use mathlib.Core.Logic.{_≢_}
 use mathlib.Core.List.{List, [], _∷_}
 use Prim.Native.Nat.{ℕ, _+_, _≤_, _<_, zero-le}
 use native.Mathlib.Nat.{zero-lt-suc}
+use native.Mathlib.Omega.{arith}
 use lib.ListN.{length, getD}
 use Rattle.field.specs.declared.blocks.Block.{Block}
 use Rattle.field.specs.Field.{block, zeroBlock, _⊕_, ghash, DifferentKeys, AtMostKeys, FileOf}
@@ -55,6 +56,6 @@ module _ (m arm : ℕ) (a b : List ℕ) (f : FileOf m a) (g : FileOf m b) (n : a
 pub few-slips : FewSlips
 few-slips =
     record {
-      one-number = λ m arm a b slip other f g n. one-number m arm a b f g n slip other;
+      one-number = λ m arm a b slip other f g n e. one-number m arm a b f g n slip other (omega (arith, e));
       one-slip = λ m arm a b slip f g n. one-slip m arm a b f g n slip;
     }
