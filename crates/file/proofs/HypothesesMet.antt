@@ -70,7 +70,7 @@ one-append s a f l =
 -- ---- two seals
 
 -- a seal is accepted of a file within the limits, with room for a slip and a number left
-seal-accepts : (m : Machine) (out : List ℕ) → length (m .bytes) ≤ maxBytes → length out ≡ slipBytes → m .last + 1 < 2 ^ 64
+pub seal-accepts : (m : Machine) (out : List ℕ) → length (m .bytes) ≤ maxBytes → length out ≡ slipBytes → m .last + 1 < 2 ^ 64
     → machineRefusal m (seal out) ≡ 0
 unfolding machineRefusal callRefusal sealRefusal
 seal-accepts m out l e r =

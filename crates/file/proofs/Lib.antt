@@ -18,7 +18,7 @@ pub mod BlankStart
 pub mod Agreement
 pub mod Demand2
 pub mod SlipAges
-pub mod Strength
 pub mod Demand3
 pub mod HypothesesMet
+pub mod Strength
 pub mod BenchCases

@@ -1,8 +1,9 @@
--- Few hash keys allow two slips with one seal number (`few-slips`): the tags differ as the hashes do, so the field's count of hash keys is theirs.
+-- Few hash keys allow two slips with one seal number (`few-slips`): the tags differ as the hashes do, so the field's count of hash keys is theirs. It rests on
+-- that count (`few-collide`), on gcm's law of two tags, and for what a seal writes on demand 2.
 use mathlib.Core.Path.{_≡_, refl, sym, ap, ap₂, _∙_}
 use mathlib.Core.Logic.{_≢_}
 use mathlib.Core.List.{List, [], _∷_}
-use Prim.Native.Nat.{ℕ, _+_, _≤_, _<_, zero-le}
+use Prim.Native.Nat.{ℕ, _+_, _^_, _≤_, _<_, zero-le}
 use native.Mathlib.Nat.{zero-lt-suc}
 use native.Mathlib.Omega.{arith}
 use lib.ListN.{length, getD}
@@ -14,9 +15,15 @@ use Rattle.field.proofs.Counting.{at-most, fewer}
 use Rattle.field.proofs.Collisions.{few-collide, small-ghash}
 use Rattle.gcm.specs.Gcm.{gmac}
 use Rattle.gcm.proofs.TagLaws.{gmac-difference, small-gmac}
-use Rattle.file.specs.Slips.{slipNumber, slipTag, nonceOf}
-use Rattle.file.specs.Demands.{SlipOf}
+use Rattle.file.specs.States.{Reading, readFile}
+use Rattle.file.specs.Slips.{slipBytes, slipNumber, slipTag, nonceOf, sealed}
+use Rattle.file.specs.Machine.{lent}
+use Rattle.file.specs.Runs.{begun, run, fromRead}
+use Rattle.file.specs.Demands.{SlipOf, AcceptedRead}
 use Rattle.file.specs.Strength.{Allows, FewSlips}
+use Rattle.file.proofs.Agreement.{agrees-read}
+use Rattle.file.proofs.Demand2.{demand-2}
+use Rattle.file.proofs.HypothesesMet.{seal-accepts}
 
 -- a slip's tag as a block
 tag-block : (key : List ℕ) (arm : ℕ) (a slip : List ℕ) → SlipOf key arm a slip → block (slipTag slip) ≡ gmac key (nonceOf arm (slipNumber slip)) a
@@ -53,9 +60,24 @@ module _ (m arm : ℕ) (a b : List ℕ) (f : FileOf m a) (g : FileOf m b) (n : a
           few-collide .one-length m a b f g n (sym (p .slip-of-a .same-length) ∙ p .other-of-b .same-length) .sequences (h ∷ keys) d
           (λ i l. same _ (has i l))
 
+-- what the first seal after a read writes
+sealing : (r : Reading) → AcceptedRead r → (out : List ℕ) → r .last + 1 < 2 ^ 64 → length out ≡ slipBytes
+    → let slip = sealed (readFile r .state) out .slip in
+    SlipOf (r .key) (r .arm) (r .file) slip × (slipNumber slip ≡ r .last + 1)
+unfolding fromRead run begun lent
+sealing r k out l e =
+    let s = demand-2 .read r k [] tt in
+    let z = seal-accepts (lent r) out (agrees-read r k [] .holds .short) e l in
+    (s .seals out z, s .numbers out z)
+
 pub few-slips : FewSlips
 few-slips =
     record {
       one-number = λ m arm a b slip other f g n e. one-number m arm a b f g n slip other (omega (arith, e));
       one-slip = λ m arm a b slip f g n. one-slip m arm a b f g n slip;
+      reused =
+          λ r b out k o l e.
+          let p = sealing r k out l e in
+          let q = sealing _ o out l e in
+          (p .1 ∙ sym (q .1), record { key = r .key; its-hash-key = refl; slip-of-a = p .0; other-of-b = q .0 });
     }

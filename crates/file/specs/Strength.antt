@@ -7,12 +7,14 @@
 use mathlib.Core.Path.{_≡_}
 use mathlib.Core.Logic.{_≢_}
 use mathlib.Core.List.{List}
-use Prim.Native.Nat.{ℕ, _+_}
+use Prim.Native.Nat.{ℕ, _+_, _<_, _^_}
+use lib.ListN.{length}
 use Rattle.field.specs.declared.blocks.Block.{Block}
 use Rattle.field.specs.Field.{AtMostKeys, FileOf}
 use Rattle.gcm.specs.Gcm.{hashKey}
-use Rattle.file.specs.Slips.{slipNumber}
-use Rattle.file.specs.Demands.{SlipOf}
+use Rattle.file.specs.States.{Reading, readFile}
+use Rattle.file.specs.Slips.{slipBytes, slipNumber, sealed}
+use Rattle.file.specs.Demands.{SlipOf, AcceptedRead}
 
 -- a hash key allows two slips: it is that of a key under which the one is a slip of file a and the other of file b
 pub record Allows (arm : ℕ) (a b slip other : List ℕ) (h : Block) : Type 0 where
@@ -29,3 +31,11 @@ pub record FewSlips : Type 0 where
       → AtMostKeys (m + 1) (Allows arm a b slip other)
   -- at most m allow one slip for both, as of a wrong card beside the right slip
   pub one-slip : (m arm : ℕ) (a b slip : List ℕ) → FileOf m a → FileOf m b → a ≢ b → AtMostKeys m (Allows arm a b slip slip)
+  -- and where a number serves twice, as after a state was put back, the key's own hash key is among them
+  pub reused :
+      (r : Reading) (b out : List ℕ)
+      → let q : Reading = record { key = r .key; arm = r .arm; last = r .last; file = b } in
+      AcceptedRead r → AcceptedRead q → r .last + 1 < 2 ^ 64 → length out ≡ slipBytes
+      → let slip = sealed (readFile r .state) out .slip in
+      let other = sealed (readFile q .state) out .slip in
+      (slipNumber slip ≡ slipNumber other) × Allows (r .arm) (r .file) b slip other (hashKey (r .key))
