@@ -1,4 +1,4 @@
--- A test that is computed at each of the numbers below a bound, and what it shows of each of them.
+-- What holds of each of the numbers below a bound: one number more, and a test that is computed at each of them.
 use mathlib.Core.Path.{_≡_}
 use mathlib.Core.Logic.{_⊎_, inl, inr}
 use mathlib.Core.Bool.{Bool, true, false, _&&_}

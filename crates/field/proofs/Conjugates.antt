@@ -21,9 +21,8 @@ use Rattle.clmul.proofs.Xor.{xor-lt, only-off, only-on, only-lt, odd-lt, digit}
 use Rattle.field.proofs.ComputedTests.{every, every-at}
 use Rattle.field.proofs.Span.{shifted-lt, one-lt}
 use Rattle.field.proofs.Recursion.{mul, mul-lt, mul-one}
-use Rattle.field.proofs.Product.{times-x}
 use Rattle.field.proofs.Values.{small-block, small-zero}
-use Rattle.field.proofs.Ring.{small-•, block-xor, block-times, block-mul, ⊕-self, ⊕-comm, ⊕-cancel-l, •-comm, •-assoc, •-⊕, ⊕-•, •-zero, •-one, one-•}
+use Rattle.field.proofs.Ring.{small-•, block-xor, block-mul, •-x, ⊕-self, ⊕-comm, ⊕-cancel-l, •-comm, •-assoc, •-⊕, ⊕-•, •-zero, •-one, one-•}
 use Rattle.field.proofs.Powers.{power-zero, power-suc, power-mul, power-of-product}
 use Rattle.field.proofs.Squares.{spread, folded, reduced, square, squares, squares-lt}
 use Rattle.field.proofs.Frobenius.{power-⊕, power-of-zero, power-of-one, power-squares, frobenius}
@@ -71,10 +70,6 @@ chosen a b h =
     (ap block (only-on a) ∙ sym (ap (λ (v : ℕ). block a • block v) (only-on (2 ^ 127)) ∙ •-one (block a) (small-block a h)))
     b
 
--- one step is one factor x
-stepped : (a : ℕ) → a < 2 ^ 128 → block (shifted a) ≡ x • block a
-stepped a h = ap block (sym (times-x a h)) ∙ block-times (2 ^ 126) a (lit< tt) h
-
 -- the recursion is the product with the polynomial's value at x
 mul-at : (n v a : ℕ) → a < 2 ^ 128 → block (mul n v a) ≡ block a • at x (coefficients n v)
 unfolding mul coefficients at zeroBlock
@@ -84,7 +79,7 @@ mul-at (suc n) v a h =
     let c = block a in
     let r = at x (coefficients n v) in
     block-xor (only b a) (mul n v (shifted a)) (only-lt 128 b a h) (mul-lt n v (shifted a) (shifted-lt a h))
-    ∙ ap₂ _⊕_ (chosen a b h (odd-lt _)) (mul-at n v (shifted a) (shifted-lt a h) ∙ ap (λ (d : Block). d • r) (stepped a h))
+    ∙ ap₂ _⊕_ (chosen a b h (odd-lt _)) (mul-at n v (shifted a) (shifted-lt a h) ∙ ap (λ (d : Block). d • r) (sym (•-x a h)))
     ∙ ap (λ (d : Block). c • coefficient b ⊕ d) (ap (λ (d : Block). d • r) (•-comm x c) ∙ •-assoc c x r)
     ∙ sym (•-⊕ c (coefficient b) (x • r))
 

@@ -1,14 +1,15 @@
 -- Counts of hash keys: from sequences of keys to the number of all that pass a test (`at-most`), and what makes that number larger (`grows`).
 use mathlib.Core.Path.{_≡_, refl, sym, ap, subst, _∙_}
 use mathlib.Core.Bool.{Bool, true, false, cond}
-use mathlib.Core.Logic.{_≢_, _⊎_, inl, inr}
+use mathlib.Core.Logic.{_≢_}
 use mathlib.Core.List.{List, _∷_}
 use Prim.Native.Nat.{ℕ, zero, suc, _^_, _≤_, _<_}
-use native.Mathlib.Nat.{le-refl, le-step, le-trans, le-of-suc-le, le-of-suc-le-suc, not-suc-le-zero, eq-or-lt-of-le, lt-irrefl}
+use native.Mathlib.Nat.{le-refl, le-step, le-trans, le-of-suc-le, le-of-suc-le-suc, not-suc-le-zero, lt-irrefl}
 use lib.ListN.{length, getD}
 use Rattle.field.specs.declared.blocks.Block.{Block}
 use Rattle.field.specs.Blocks.{value, block, Small, zeroBlock}
 use Rattle.field.specs.Strength.{DifferentKeys, passing, howMany, AtMostKeys}
+use Rattle.field.proofs.ComputedTests.{and-next}
 use Rattle.field.proofs.Values.{value-block, small-block}
 
 -- a block that passes the test, of a number below n
@@ -55,12 +56,9 @@ module _ (test : Block → Bool) where
   pub grows : (v n : ℕ) → v < n → test (block v) ≡ true → length (passing test v) < length (passing test n)
   unfolding passing
   grows v zero l e = absurd (not-suc-le-zero l)
-  grows v (suc n) l e = by (eq-or-lt-of-le (le-of-suc-le-suc l)) (λ m. grows v n m e)
-    where
-      by : (v ≡ n) ⊎ (v < n) → (v < n → length (passing test v) < length (passing test n))
-          → length (passing test v) < length (cond (test (block n)) (block n ∷ passing test n) (passing test n))
-      by (inl f) more = rw (← f, e) (le-refl _)
-      by (inr m) more = le-trans (more m) (longer (test (block n)) (block n) (passing test n))
+  grows v (suc n) l e =
+      and-next (λ (v : ℕ). test (block v) ≡ true → length (passing test v) < length (passing test (suc n))) n
+      (λ e. rw e (le-refl _)) (λ v m e. le-trans (grows v n m e) (longer (test (block n)) (block n) (passing test n))) v l e
 
 -- a bound of all sequences is one of the number
 pub at-most : (n : ℕ) (P : Block → Type 0)

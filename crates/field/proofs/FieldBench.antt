@@ -1,6 +1,6 @@
 -- Document 01's bench cases of this layer, those marked with a star, hold.
 -- Each is shown by the laws down to sums and steps of written numbers, which are computed; Algorithm 1 itself is never run.
--- Rests on Product, Ring and Hash.
+-- Rests on Ring and Hash.
 use mathlib.Core.Path.{_≡_, refl, sym, ap, _∙_}
 use mathlib.Core.List.{[], _∷_, _++_}
 use Prim.Native.Nat.{ℕ, _*_, _^_, _<_}
@@ -16,14 +16,9 @@ use Rattle.field.specs.Powers.{digitsIn, width, steps}
 use Rattle.field.specs.Sums.{blocks}
 use Rattle.field.specs.Ghash.{Yᵢ, padded, ghashInput, ghash}
 use Rattle.field.specs.FieldBench.{FieldBench}
-use Rattle.field.proofs.Product.{times-x}
 use Rattle.field.proofs.Values.{small-block}
-use Rattle.field.proofs.Ring.{block-xor, block-times, zero-⊕, •-comm, •-one, one-•}
+use Rattle.field.proofs.Ring.{block-xor, •-x, zero-⊕, •-comm, •-one, one-•}
 use Rattle.field.proofs.Hash.{ghash-nothing}
-
--- the product by x, on blocks
-•-x : (v : ℕ) → v < 2 ^ 128 → block (2 ^ 126) • block v ≡ block (shifted v)
-•-x v h = sym (block-times (2 ^ 126) v (lit< tt) h) ∙ ap block (times-x v h)
 
 -- x times x^127: 40, then zeros, times zeros, then 01, is E1, then zeros
 x-top : block (2 ^ 126) • block 1 ≡ block (0xe1 * 2 ^ 120)

@@ -13,9 +13,8 @@ use Rattle.field.specs.Blocks.{value, block, Small, zeroBlock, one, _⊕
 use Rattle.field.specs.Powers.{power, companion}
 use Rattle.clmul.proofs.Xor.{xor-lt}
 use Rattle.field.proofs.Span.{shifted-lt, one-lt, span}
-use Rattle.field.proofs.Product.{times-x}
 use Rattle.field.proofs.Values.{value-lt, block-value, small-block, small-zero, small-one}
-use Rattle.field.proofs.Ring.{value-⊕, value-•, block-xor, block-times}
+use Rattle.field.proofs.Ring.{value-⊕, value-•, block-xor, block-times, •-x}
 use Rattle.field.proofs.Ring.{•-comm, •-assoc, •-⊕, •-zero, •-one}
 use Rattle.field.proofs.Powers.{power-zero, power-suc, power-one, power-add, power-of-product}
 use Rattle.field.proofs.Squares.{square-times, squares, squares-lt, squares-x, times-square-xor}
@@ -72,7 +71,7 @@ kept k e v h =
     (one-lt, unfold one in power-of-one (2 ^ k))
     (λ a p. (
       shifted-lt a (p .0),
-      rw (← times-x a (p .0), block-times (2 ^ 126) a (lit< tt) (p .0))
+      rw (← •-x a (p .0))
           (power-of-product (block (2 ^ 126)) (block a) (2 ^ k) ∙ ap₂ _•_ e (p .1)),
     ))
     v h .1

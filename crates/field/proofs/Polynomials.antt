@@ -10,15 +10,11 @@ use Rattle.field.specs.declared.blocks.Block.{Block}
 use Rattle.field.specs.Blocks.{Small, zeroBlock, _⊕_, _•_}
 use Rattle.field.proofs.Values.{small-zero}
 use Rattle.field.proofs.Ring.{small-⊕, ⊕-comm, ⊕-assoc, ⊕-swap, ⊕-self, ⊕-zero, zero-⊕, ⊕-cancel-l, ⊕-cancel-r}
-use Rattle.field.proofs.Ring.{•-comm, •-assoc, •-⊕, ⊕-•, •-zero}
+use Rattle.field.proofs.Ring.{•-left-comm, •-⊕, ⊕-•, •-zero}
 
--- ---- sums and products in another order
-
+-- the last two terms of a sum change places
 ⊕-last : (a b c : Block) → a ⊕ b ⊕ c ≡ a ⊕ c ⊕ b
 ⊕-last a b c = ⊕-assoc a b c ∙ ap (_⊕_ a) (⊕-comm b c) ∙ sym (⊕-assoc a c b)
-
-•-before : (a b c : Block) → a • (b • c) ≡ b • (a • c)
-•-before a b c = sym (•-assoc a b c) ∙ ap (λ (d : Block). d • c) (•-comm a b) ∙ •-assoc b a c
 
 -- ---- values
 
@@ -98,7 +94,7 @@ division h r (c ∷ p) =
     ap (λ (b : Block). h • b ⊕ r • t) (sym (⊕-cancel-r c (h • at h p) (r • at r p)))
     ∙ ap (λ (b : Block). b ⊕ r • t) (•-⊕ h t m)
     ∙ ⊕-last (h • t) (h • m) (r • t)
-    ∙ ap₂ _⊕_ (sym (⊕-• h r t)) (ap (_•_ h) (division h r p) ∙ •-before h (h ⊕ r) _)
+    ∙ ap₂ _⊕_ (sym (⊕-• h r t)) (ap (_•_ h) (division h r p) ∙ •-left-comm h (h ⊕ r) _)
     ∙ sym (•-⊕ (h ⊕ r) t _)
 
 -- where the quotient is nothing, so is p's value at r, and p

@@ -156,9 +156,9 @@ three =
 -- ---- past the limit
 
 -- zero bytes joined are zero bytes
-joined : (n r q : ℕ) {s t : List ℕ} → s ≡ replicate 8 0 → t ≡ replicate 8 0
+zeros-joined : (n r q : ℕ) {s t : List ℕ} → s ≡ replicate 8 0 → t ≡ replicate 8 0
     → (k : ℕ) × (replicate n 0 ++ replicate r 0 ++ replicate q 0 ++ s ++ t ≡ replicate k 0)
-joined n r q e f = (n + r + q + 8 + 8, simp (e, f, replicate-append-replicate))
+zeros-joined n r q e f = (n + r + q + 8 + 8, simp (e, f, replicate-append-replicate))
 
 -- so is GHASH's input where the 64 bits of their length are zeros
 input : (n : ℕ) → bytes 8 (8 * n) ≡ replicate 8 0 → bytes 8 0 ≡ replicate 8 0 → (k : ℕ) × (ghashInput (replicate n 0) [] ≡ replicate k 0)
@@ -166,7 +166,7 @@ unfolding ghashInput padded
 input n e f =
     let z : List ℕ = replicate n 0 in
     let l : bytes 8 (8 * length z) ≡ replicate 8 0 = ap (λ (k : ℕ). bytes 8 (8 * k)) (length-replicate {A = ℕ} n 0) ∙ e in
-    joined n (16 * blocks (length z) - length z) (16 * blocks 0 - 0) l f
+    zeros-joined n (16 * blocks (length z) - length z) (16 * blocks 0 - 0) l f
 
 past : (h : Block) (n : ℕ) → bytes 8 (8 * n) ≡ replicate 8 0 → bytes 8 0 ≡ replicate 8 0 → ghash h (replicate n 0) [] ≡ zeroBlock
 unfolding ghash

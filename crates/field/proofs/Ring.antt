@@ -3,11 +3,12 @@
 -- Rests on Xor, Recursion, Product and Values.
 use mathlib.Core.Path.{_≡_, sym, ap, ap₂, _∙_}
 use Prim.Native.Nat.{ℕ, _^_, _<_}
+use lib.Dec.{lit<}
 use Rattle.field.specs.declared.blocks.Block.{Block}
 use Rattle.clmul.specs.Xor.{xor}
-use Rattle.field.specs.Elements.{times}
+use Rattle.field.specs.Elements.{shifted, times}
 use Rattle.field.specs.Blocks.{value, block, Small, zeroBlock, one, _⊕_, _•_}
-use Rattle.clmul.proofs.Commutative.{swap}
+use Rattle.clmul.proofs.Commutative.{left-comm, swap}
 use Rattle.clmul.proofs.Xor as x
 use Rattle.field.proofs.Recursion.{mul, times-mul}
 use Rattle.field.proofs.Product as p
@@ -42,6 +43,10 @@ block-times a b p q = ap block (sym (ap₂ times (value-block a p) (value-block 
 -- the product by the recursion of Recursion, to be computed
 pub block-mul : (a b : ℕ) → a < 2 ^ 128 → b < 2 ^ 128 → block a • block b ≡ block (mul 128 a b)
 block-mul a b p q = sym (block-times a b p q) ∙ ap block (times-mul a b)
+
+-- the product by x
+pub •-x : (v : ℕ) → v < 2 ^ 128 → block (2 ^ 126) • block v ≡ block (shifted v)
+•-x v h = sym (block-times (2 ^ 126) v (lit< tt) h) ∙ ap block (p.times-x v h)
 
 -- the sum
 
@@ -95,6 +100,9 @@ pub •-assoc : (a b c : Block) → a • b • c ≡ a • (b • c)
   where
     numbers : times (value (a • b)) (value c) ≡ times (value a) (value (b • c))
     numbers = simp value-• (p.times-assoc _ _ _ (value-lt b) (value-lt c))
+
+pub •-left-comm : (a b c : Block) → a • (b • c) ≡ b • (a • c)
+•-left-comm = left-comm _•_ •-assoc •-comm
 
 pub •-swap : (a b c d : Block) → a • b • (c • d) ≡ a • c • (b • d)
 •-swap = swap _•_ •-assoc •-comm
