@@ -1,7 +1,7 @@
 -- The powers x^(2^k), k < 128, which are called x's conjugates: the difference of any two of them cancels (`apart`); and a block, as a polynomial in x with the
 -- coefficients zero and one, has at each of them the value that is its own power 2^k (`at-conjugate`).
 -- The first rests on one computed test, that x^(2^64) + x has an inverse: what x^(2^d) + x gives zero with, x^(2^2d) + x does too, and so on up to that one.
--- This and x^(2^128) = x, which Frobenius computes, are the two conditions of Rabin's test that the modulus, of degree 128 = 2^7, is irreducible.
+-- This and x^(2^128) = x, which Squares computes, are the two conditions of Rabin's test that the modulus, of degree 128 = 2^7, is irreducible.
 -- Rests on Frobenius, Squares and Polynomials.
 use mathlib.Core.Path.{_≡_, refl, sym, ap, ap₂, subst, _∙_}
 use mathlib.Core.Bool.{Bool, true, false, cond}
