@@ -1,33 +1,32 @@
 -- The demands' hypotheses are met: by every start and read within the limits, and by every edit that names the machine's own bytes; and what
--- demand 3 then says of one append, and the theorem on a list's slips of two seals.
--- It rests on what start and read answer (`Calls`), on demand 3 and on that theorem (`SlipAges`).
-use mathlib.Core.Path.{_≡_, sym, ap, ap₂, _∙_}
-use mathlib.Core.List.{List, [], _∷_, _++_}
+-- the demands then say of lists of appends and of seals.
+-- It rests on what start and read answer (`Calls`), on such lists as the plain machine runs them (`KnownLists`), on demands 2 and 3 and on the theorem
+-- on a list's slips (`SlipAges`).
+use mathlib.Core.Path.{_≡_, refl, sym, ap, subst, _∙_}
+use mathlib.Core.List.{List, [], _∷_, _++_, flatten}
+use mathlib.Core.List.{List·Memᴰ, List·Memᴰ·head, Memᴰ·append-right}
 use Prim.Native.Nat.{ℕ, _+_, _-_, _≤_, _<_, _^_}
+use native.Mathlib.Nat.{zero-add}
 use native.Mathlib.Omega.{arith}
-use lib.ListN.{length, take, drop, replicate, length-drop, length-replicate, take-append-drop}
+use lib.ListN.{length, take, drop, replicate, length-drop, length-append, length-replicate, take-append-drop}
 use lib.Seq.{take-append-seam}
-use borrow.Author.Tests.{le-ltb, eq-eqb, ne-eqb}
-use Rattle.refusals.proofs.Laws.{first-none, first-later, agree}
 use Rattle.field.specs.Field.{sum, maxBytes}
 use Rattle.gcm.specs.Gcm.{hashKey}
-use Rattle.file.specs.declared.geometry.Kind.the-variants.{Append}
-use Rattle.file.specs.declared.sealing.Verdict.the-variants.{Current, Stale}
+use Rattle.file.specs.declared.sealing.Verdict.the-variants.{Current}
 use Rattle.file.specs.declared.states.State.{State}
-use Rattle.file.specs.Edits.{append, kindOf, placeOf, given, replacing}
-use Rattle.file.specs.Edits.{kindCauses, kindRefusal, geometryAt, editRefusal}
-use Rattle.file.specs.States.{stateOf, Start}
-use Rattle.file.specs.Slips.{slipBytes, sealRefusal, sealed, Finds}
-use Rattle.file.specs.Calls.{Call, edit, seal, callRefusal}
-use Rattle.file.specs.Machine.{Machine, blank, withBytes, withLast, bytesAfter, MachineAnswer, acceptedBy, machineRefusal, machineAnswer, NamesHeld, TrueCall}
-use Rattle.file.specs.Runs.{Run, begun, further, run, fromStart, Written, writtenBy, writtenIn}
-use Rattle.file.specs.Demands.{AcceptedStart, Demand3}
-use Rattle.file.specs.Met.{Met}
-use Rattle.file.proofs.ShapeLaws.{geometry-refusal}
-use Rattle.file.proofs.Calls.{machine-accepted, begun-read, start-accepts, read-accepts}
-use Rattle.file.proofs.Agreement.{Agrees, agrees-start}
+use Rattle.file.specs.States.{stateOf, Start, started}
+use Rattle.file.specs.Slips.{slipBytes, sealed, Condition}
+use Rattle.file.specs.Calls.{Call, seal}
+use Rattle.file.specs.Machine.{Machine, blank, lent, withLast, NamesHeld, TrueCall}
+use Rattle.file.specs.Runs.{Run, begun, further, run, fromStart, fromRead, Written, writtenIn}
+use Rattle.file.specs.Demands.{AcceptedStart, SlipOf, Sealing, TwoRuns, upFrom, Demand3}
+use Rattle.file.specs.Met.{appends, appendCounts, Grown, Sealable, Numbered, Met}
+use Rattle.file.proofs.Calls.{begun-read, start-accepts, read-accepts}
+use Rattle.file.proofs.KnownLists.{run-append, append-true, longer, seal-accepts, seal-machine, risen}
+use Rattle.file.proofs.Agreement.{agrees-start}
+use Rattle.file.proofs.Demand2.{demand-2}
 use Rattle.file.proofs.Demand3.{demand-3}
-use Rattle.file.proofs.SlipAges.{seal-refusal, slip-ages}
+use Rattle.file.proofs.SlipAges.{slip-ages}
 
 -- ---- a list's own bytes
 
@@ -39,104 +38,94 @@ tail-own l f =
     let same : length f - length (drop (length f - l) f) ≡ length f - l = rw (length-drop (length f - l) f) (omega arith) in
     ap (λ (n : ℕ). drop n f) same
 
--- ---- one append
+-- ---- appends
 
-append-true : (m : Machine) (s : List ℕ) → TrueCall m (edit (append s))
-unfolding TrueCall NamesHeld
-append-true m s a = tt
+-- under true bytes the sum is that of the machine's bytes, by demand 3's reader
+pub read-sum : (s : Start) (r : Run) → TwoRuns s r → r .truth → r .state .s ≡ sum (hashKey (s .key)) (r .machine .bytes)
+unfolding stateOf
+read-sum s r d t =
+    let reader = d .reader t 0 0 in
+    reader .sum ∙ ap (λ (st : State). st .s) (begun-read _ (reader .accepted) .state)
 
-append-accepts : (m : Machine) (s : List ℕ) → length (m .bytes) + length s ≤ maxBytes → machineRefusal m (edit (append s)) ≡ 0
-unfolding machineRefusal callRefusal editRefusal geometryAt kindOf placeOf given replacing kindRefusal kindCauses
-append-accepts m s l =
-    geometry-refusal Append 0 (length s) 0 (length (m .bytes))
-    ∙ sym (first-later _ _ _ (le-ltb maxBytes (length (m .bytes)) (omega arith)) (first-later _ _ _ (le-ltb _ _ l) first-none))
+grows : (s : Start) → AcceptedStart s → (parts : List (List ℕ)) → s .n + length (flatten parts) ≤ maxBytes
+    → Grown s parts (fromStart s (appends parts))
+unfolding Demand3 fromStart begun blank
+grows s a parts l =
+    let size = length-replicate (s .n) (s .fill) in
+    let g = longer (begun (started s .state) (blank s)) parts (rw size l) in
+    let d = demand-3 s a (appends parts) in
+    record {
+      refusals = d .refusals ∙ g .refusals;
+      sums = read-sum s (fromStart s (appends parts)) d (g .truth tt) ∙ ap (sum (hashKey (s .key))) (g .bytes);
+      lengths = d .lengths
+          ∙ ap length (g .bytes)
+          ∙ length-append (replicate (s .n) (s .fill)) (flatten parts)
+          ∙ ap (λ (n : ℕ). n + length (flatten parts)) size;
+      lasts = d .lasts ∙ g .last;
+      total = d .total ∙ g .total ∙ ap (λ (n : ℕ). 0 + appendCounts n parts) size ∙ zero-add (appendCounts (s .n) parts);
+      within = d .within;
+    }
 
-append-bytes : (m : Machine) (s : List ℕ) → length (m .bytes) + length s ≤ maxBytes
-    → machineAnswer m (edit (append s)) .machine .bytes ≡ m .bytes ++ s
-unfolding acceptedBy withBytes bytesAfter
-append-bytes m s l = ap (λ (b : MachineAnswer). b .machine .bytes) (machine-accepted m (edit (append s)) (append-accepts m s l))
+-- ---- a seal after them
 
--- demand 3's reader of the list of this one call, which is true, has the sum of the bytes that it leaves
-one-append : (s : Start) → AcceptedStart s → (f : List ℕ) → s .n + length f ≤ maxBytes
-    → fromStart s (edit (append f) ∷ []) .state .s ≡ sum (hashKey (s .key)) (replicate (s .n) (s .fill) ++ f)
-unfolding Demand3 fromStart run further begun blank stateOf
-one-append s a f l =
-    let m = blank s in
-    let b = demand-3 s a (edit (append f) ∷ []) .reader (tt, append-true m f) 0 0 in
-    b .sum
-    ∙ ap (λ (st : State). st .s) (begun-read _ (b .accepted) .state)
-    ∙ ap (sum (hashKey (s .key))) (append-bytes m f (rw (length-replicate (s .n) (s .fill)) l))
+-- b is the run before the first call, of which demand 2 speaks
+module _ (key : List ℕ) (arm : ℕ) (b : Run) (true-so-far : b .truth) (speaks : (calls : List Call) → run b calls .truth → Sealing key arm (run b calls))
+    (parts : List (List ℕ)) (short : length (b .machine .bytes) + length (flatten parts) ≤ maxBytes) (left : b .machine .last + 1 < 2 ^ 64)
+    (out : List ℕ) (room : length out ≡ slipBytes) where
+  sealable : Sealable key arm (b .machine .bytes ++ flatten parts) out (run b (appends parts)) (run b (appends parts ++ (seal out ∷ [])))
+  unfolding run further TrueCall withLast Condition
+  sealable =
+      let r = run b (appends parts) in
+      let g = longer b parts short in
+      let size : length (r .machine .bytes) ≤ maxBytes = rw (g .bytes, length-append (b .machine .bytes) (flatten parts)) short in
+      let accepted = seal-accepts (r .machine) out size room (rw (g .last) left) in
+      let raised = seal-machine (r .machine) out accepted in
+      let both = run-append b (appends parts) (seal out ∷ []) in
+      let before = speaks (appends parts) (g .truth true-so-far) in
+      let after : Sealing key arm (further r (seal out)) =
+      subst (Sealing key arm) both (speaks (appends parts ++ (seal out ∷ [])) (subst (λ (x : Run). x .truth) (sym both) (g .truth true-so-far, tt))) in
+      let slip = sealed (r .state) out .slip in
+      record {
+        slip-of = subst (λ (f : List ℕ). SlipOf key arm f slip) (g .bytes) (before .seals out accepted);
+        found = rw both
+            (after .verdicts slip Current .1 (
+              subst (λ (m : Machine). SlipOf key arm (m .bytes) slip) (sym raised) (before .seals out accepted),
+              before .numbers out accepted ∙ ap (λ (m : Machine). m .last) (sym raised),
+            ));
+      }
 
--- ---- two seals
+-- ---- seals
 
--- a seal is accepted of a file within the limits, with room for a slip and a number left
-pub seal-accepts : (m : Machine) (out : List ℕ) → length (m .bytes) ≤ maxBytes → length out ≡ slipBytes → m .last + 1 < 2 ^ 64
-    → machineRefusal m (seal out) ≡ 0
-unfolding machineRefusal callRefusal sealRefusal
-seal-accepts m out l e r =
-    let left : m .last ≡ 2 ^ 64 - 1 → ⊥ = λ z. omega arith in
-    sym (first-later _ _ _ (le-ltb _ _ l) (first-later _ _ _ (agree e) (first-later _ _ _ (ne-eqb _ _ left) first-none)))
+module _ (s : Start) (a : AcceptedStart s) (k : ℕ) (left : s .last + k < 2 ^ 64) (out : List ℕ) (room : length out ≡ slipBytes) where
+  abbrev calls : List Call
+  calls = replicate k (seal out)
 
--- and then raises the number, and alters no byte
-seal-machine : (m : Machine) (out : List ℕ) → machineRefusal m (seal out) ≡ 0 → machineAnswer m (seal out) .machine ≡ withLast m (m .last + 1)
-unfolding acceptedBy
-seal-machine m out z = ap (λ (x : MachineAnswer). x .machine) (machine-accepted m (seal out) z)
-
--- what a run's accepted seal writes
-abbrev slipOn : Run → List ℕ → Written
-slipOn r out = record { slip = sealed (r .state) out .slip; bytes = r .machine .bytes }
-
-seal-writes : {key : List ℕ} {arm last : ℕ} (r : Run) → Agrees key arm last r → (out : List ℕ) → machineRefusal (r .machine) (seal out) ≡ 0
-    → writtenBy r (seal out) ≡ slipOn r out ∷ []
-unfolding writtenBy
-seal-writes r g out z = simp (eq-eqb _ _ (seal-refusal r g out ∙ z))
-
-module _ (s : Start) (accepted : AcceptedStart s) (room : s .last + 2 < 2 ^ 64) (a b : List ℕ) (la : length a ≡ slipBytes) (lb : length b ≡ slipBytes) where
-  abbrev after : List Call → Run
-  after calls = fromStart s calls
-
-  first-accepts : machineRefusal (after [] .machine) (seal a) ≡ 0
-  unfolding fromStart run begun blank
-  first-accepts = seal-accepts (blank s) a (agrees-start s accepted [] .holds .short) la (omega arith)
-
-  after-first : after (seal a ∷ []) .machine ≡ withLast (after [] .machine) (s .last + 1)
-  unfolding fromStart run further begun blank
-  after-first = seal-machine (blank s) a first-accepts
-
-  second-accepts : machineRefusal (after (seal a ∷ []) .machine) (seal b) ≡ 0
-  unfolding withLast
-  second-accepts =
-      let last : after (seal a ∷ []) .machine .last ≡ s .last + 1 = ap (λ (m : Machine). m .last) after-first in
-      seal-accepts (after (seal a ∷ []) .machine) b (agrees-start s accepted (seal a ∷ []) .holds .short) lb (omega (arith, last, room))
-
-  bytes-first : after (seal a ∷ []) .machine .bytes ≡ after [] .machine .bytes
-  unfolding withLast
-  bytes-first = ap (λ (m : Machine). m .bytes) after-first
-
-  bytes-second : after (seal a ∷ seal b ∷ []) .machine .bytes ≡ after (seal a ∷ []) .machine .bytes
-  unfolding fromStart run further withLast
-  bytes-second = ap (λ (m : Machine). m .bytes) (seal-machine (after (seal a ∷ []) .machine) b second-accepts)
-
-  both : writtenIn (after []) (seal a ∷ seal b ∷ []) ≡ slipOn (after []) a ∷ slipOn (after (seal a ∷ [])) b ∷ []
-  unfolding writtenIn fromStart run
-  both =
-      ap₂ _++_ (seal-writes (after []) (agrees-start s accepted []) a first-accepts)
-      (ap (λ (x : List Written). x ++ []) (seal-writes (after (seal a ∷ [])) (agrees-start s accepted (seal a ∷ [])) b second-accepts))
-
-  two-seals :
-      let r = after (seal a ∷ seal b ∷ []) in
-      Finds (r .state) (slipOn (after []) a .slip) Stale × Finds (r .state) (slipOn (after (seal a ∷ [])) b .slip) Current
-  unfolding fromStart run further begun TrueCall
-  two-seals =
-      let ages = slip-ages .start s accepted (seal a ∷ seal b ∷ []) in (
-        ages .put-back [] [] (slipOn (after []) a) (slipOn (after (seal a ∷ [])) b) both ((tt, tt), tt) (bytes-second ∙ bytes-first),
-        ages .newest (slipOn (after []) a ∷ []) (slipOn (after (seal a ∷ [])) b) both ((tt, tt), tt) bytes-second,
-      )
+  numbered : Numbered s k (writtenIn (fromStart s []) calls) (fromStart s calls)
+  unfolding Demand3 fromStart run begun blank
+  numbered =
+      let g = risen (begun (started s .state) (blank s)) out k (agrees-start s a [] .holds .short) room left in
+      let d = demand-3 s a calls in
+      let ages = slip-ages .start s a calls in
+      let many : length (fromStart s calls .numbers) ≡ k = omega (arith, d .issues, g .last) in
+      let issued = d .numbers ∙ ap (upFrom (s .last + 1)) many in
+      let among : (before after : List Written) (w : Written) → writtenIn (fromStart s []) calls ≡ before ++ (w ∷ after)
+      → fromStart s calls .machine .bytes ≡ w .bytes = λ before after w e.
+      g .bytes ∙ sym (g .slips w (subst (List·Memᴰ w) (sym e) (Memᴰ·append-right before (List·Memᴰ·head refl)))) in
+      record {
+        refusals = d .refusals ∙ g .refusals;
+        total = d .total ∙ g .total;
+        numbers = issued;
+        distinct = λ i j p q. d .distinct i j p (rw many q);
+        on-slips = ages .numbers ∙ issued;
+        newest = λ before w e. ages .newest before w e (g .truth tt) (among before [] w e);
+        older = λ before after w next e. ages .put-back before after w next e (g .truth tt) (among before (next ∷ after) w e);
+        none-ahead = λ slip i l e. ages .issued slip i (rw many l) e;
+      }
 
 -- ---- the whole
 
 pub met : Met
-unfolding TrueCall NamesHeld
+unfolding TrueCall NamesHeld fromStart fromRead begun blank lent
 met =
     record {
       start = λ s k n arm last. record { accepted = start-accepts s k n; arm = arm; last = last };
@@ -148,6 +137,11 @@ met =
       cut-true = λ m l a. tail-own l (m .bytes);
       seal-true = λ m out. tt;
       check-true = λ m slip. tt;
-      one-append = one-append;
-      two-seals = two-seals;
+      appends-grow = grows;
+      start-sealable = λ s a parts short left out room.
+          sealable (s .key) (s .arm) _ tt (demand-2 .start s a) parts (rw (length-replicate (s .n) (s .fill)) short) left out room;
+      read-sealable = λ r a parts short left out room. sealable (r .key) (r .arm) _ tt (demand-2 .read r a) parts short left out room;
+      seals-numbered = numbered;
+      start-outdated = λ s a calls before after w next e. slip-ages .start s a calls .earlier before after w next e .0;
+      read-outdated = λ r a calls before after w next e. slip-ages .read r a calls .earlier before after w next e .0;
     }

@@ -124,6 +124,9 @@ length-by : (f : List ℕ) (e : Edit) → editRefusal (length f) e ≡ 0 → (le
 length-by f e a (inl z) = none-length (length f) e a z ∙ ap length (sym (nothing-kept f e a z))
 length-by f e a (inr z) = ap (λ (g : Geometry). g .n) (geometry-some (length f) e a (λ y. omega arith)) ∙ sym (bytes-count f e a)
 
+pub length-kept : (f : List ℕ) (e : Edit) → editRefusal (length f) e ≡ 0 → geometryAt (length f) e .n ≡ length (bytesAfter f e)
+length-kept f e a = length-by f e a (eq-zero-or-pos (length (given e)))
+
 module _ (key : List ℕ) (arm : ℕ) (st : State) (m : Machine) (h : Holds key arm st m) where
   holds-put : (s : Block) → Small s → (e : Edit) → editRefusal (length (m .bytes)) e ≡ 0
       → Holds key arm (put st s (geometryAt (st .n) e .n)) (withBytes m (bytesAfter (m .bytes) e))
@@ -135,7 +138,7 @@ module _ (key : List ℕ) (arm : ℕ) (st : State) (m : Machine) (h : Holds key 
         same-i = h .same-i;
         small-s = w;
         same-arm = h .same-arm;
-        same-n = ap (λ (x : ℕ). geometryAt x e .n) (h .same-n) ∙ length-by (m .bytes) e a (eq-zero-or-pos (length (given e)));
+        same-n = ap (λ (x : ℕ). geometryAt x e .n) (h .same-n) ∙ length-kept (m .bytes) e a;
         same-last = h .same-last;
         short = rw (bytes-count (m .bytes) e a) (limit-kept (length (m .bytes)) e a);
         room = h .room;

@@ -19,6 +19,7 @@ pub mod Agreement
 pub mod Demand2
 pub mod SlipAges
 pub mod Demand3
+pub mod KnownLists
 pub mod HypothesesMet
 pub mod Strength
 pub mod BenchCases

@@ -23,7 +23,7 @@ use Rattle.file.specs.Demands.{SlipOf, AcceptedRead}
 use Rattle.file.specs.Strength.{Allows, FewSlips}
 use Rattle.file.proofs.Agreement.{agrees-read}
 use Rattle.file.proofs.Demand2.{demand-2}
-use Rattle.file.proofs.HypothesesMet.{seal-accepts}
+use Rattle.file.proofs.KnownLists.{seal-accepts}
 
 -- a slip's tag as a block
 tag-block : (key : List ℕ) (arm : ℕ) (a slip : List ℕ) → SlipOf key arm a slip → block (slipTag slip) ≡ gmac key (nonceOf arm (slipNumber slip)) a

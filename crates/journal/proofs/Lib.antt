@@ -6,3 +6,5 @@ pub mod OpeningLaws
 pub mod ReplayLaws
 pub mod Singly
 pub mod Lists
+pub mod KnownJournals
+pub mod KnownTasks

@@ -26,7 +26,7 @@ use Rattle.journal.proofs.OpeningLaws.{Tells, tells, record-some, appli
 -- ---- the edits made from a place on, by what stands there
 
 module _ (most : ℕ) (j : List ℕ) (at n : ℕ) where
-  made-opens : {e : Edit} {next : ℕ} → opening j at ≡ opens e next
+  pub made-opens : {e : Edit} {next : ℕ} → opening j at ≡ opens e next
       → madeFrom n (journalFrom (suc most) j at .edits)
       ≡ cond (eqb (editRefusal n e) 0) (e ∷ madeFrom (geometryAt n e .n) (journalFrom most j next .edits)) []
   unfolding madeFrom journalFrom journalWith
@@ -36,7 +36,7 @@ module _ (most : ℕ) (j : List ℕ) (at n : ℕ) where
   unfolding madeFrom journalFrom journalWith
   made-refused q = rw q
 
-  made-ended : opening j at ≡ ended → madeFrom n (journalFrom (suc most) j at .edits) ≡ []
+  pub made-ended : opening j at ≡ ended → madeFrom n (journalFrom (suc most) j at .edits) ≡ []
   unfolding madeFrom journalFrom journalWith
   made-ended q = rw q
 
@@ -150,10 +150,14 @@ walk (suc most) j r at count l f =
 whole : (st : State) (j : List ℕ) (n : ℕ) → n ≡ replayRefusal (st .n) j → 0 < n → replayed st j ≡ stoppedAt st 0 n 0
 whole st j n e p = replayed-whole st j (λ z. omega (arith, e)) ∙ ap (λ (m : ℕ). stoppedAt st 0 m 0) (sym e)
 
+-- what isn't
+pub passes : (n : ℕ) (j : List ℕ) → n ≤ maxBytes → length j ≤ maxJournal → replayRefusal n j ≡ 0
+unfolding replayRefusal
+passes n j short few = sym (first-later _ _ _ (le-ltb _ _ short) (first-later _ _ _ (le-ltb _ _ few) first-none))
+
 module _ (r : Run) (j : List ℕ) (short : r .state .n ≤ maxBytes) (few : length j ≤ maxJournal) where
   passed : replayRefusal (r .state .n) j ≡ 0
-  unfolding replayRefusal
-  passed = sym (first-later _ _ _ (le-ltb _ _ short) (first-later _ _ _ (le-ltb _ _ few) first-none))
+  passed = passes (r .state .n) j short few
 
   single : Walked r j 0 0 (made (r .state .n) j) (replayed (r .state) j)
   unfolding made openedJournal

@@ -2,4 +2,5 @@
 pub mod Records
 pub mod Journals
 pub mod Singly
+pub mod Met
 pub mod Contracts

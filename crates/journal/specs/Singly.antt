@@ -11,9 +11,9 @@ use Rattle.file.specs.declared.states.State.{State}
 use Rattle.file.specs.Edits.{Edit, geometryAt, editRefusal}
 use Rattle.file.specs.States.{Start, Reading, started, readFile, edited}
 use Rattle.file.specs.Calls.{Call, edit, callAnswer}
-use Rattle.file.specs.Machine.{blank, lent}
-use Rattle.file.specs.Runs.{Run, begun, run, fromStart, fromRead}
-use Rattle.file.specs.Demands.{AcceptedStart, AcceptedRead, Sealing, TwoRuns}
+use Rattle.file.specs.Machine.{Machine, blank, lent, machineRefusal}
+use Rattle.file.specs.Runs.{Run, begun, run, fromStart, fromRead, Written, writtenIn}
+use Rattle.file.specs.Demands.{AcceptedStart, AcceptedRead, Sealing, TwoRuns, Ages}
 use Rattle.journal.specs.Records.{recordBytes, Opening, opens, refused, ended, opening}
 use Rattle.journal.specs.Journals.{openedJournal, maxJournal, replayRefusal, ReplayAnswer, stoppedAt, replayed}
 
@@ -87,24 +87,42 @@ pub data Task : Type 0 where
   call : Call → Task
   replay : List ℕ → Task
 
--- the editor alone: its state, the sum of the counts that it reported, and where each journal stopped
+-- the editor alone: its state, the sum of the counts that it reported, the number that it answered to each task, the seal numbers that it issued,
+-- the slips that its accepted seals wrote, and where each journal stopped
 pub record Editor : Type 0 where
   pub state : State
   pub total : ℕ
+  pub refusals : List ℕ
+  pub numbers : List ℕ
+  pub slips : List (List ℕ)
   pub stops : List (ℕ × ℕ)
 
 -- before the first task
 unfoldable pub idle : State → Editor
-idle st = record { state = st; total = 0; stops = [] }
+idle st = record { state = st; total = 0; refusals = []; numbers = []; slips = []; stops = [] }
 
--- after one task more
+-- after one task more; a call that issues a number writes the slip that it stands on
 unfoldable pub worked : Editor → Task → Editor
 worked w (call c) =
     let a = callAnswer (w .state) c in
-    record { state = a .state; total = w .total + a .count; stops = w .stops }
+    record {
+      state = a .state;
+      total = w .total + a .count;
+      refusals = w .refusals ++ (a .refusal ∷ []);
+      numbers = w .numbers ++ a .issued;
+      slips = w .slips ++ map (λ (number : ℕ). a .slip) (a .issued);
+      stops = w .stops;
+    }
 worked w (replay j) =
     let a = replayed (w .state) j in
-    record { state = a .state; total = w .total + a .count; stops = w .stops ++ ((a .refusal, a .offset) ∷ []) }
+    record {
+      state = a .state;
+      total = w .total + a .count;
+      refusals = w .refusals ++ (a .refusal ∷ []);
+      numbers = w .numbers;
+      slips = w .slips;
+      stops = w .stops ++ ((a .refusal, a .offset) ∷ []);
+    }
 
 -- after all of a list
 unfoldable pub workedAll : Editor → List Task → Editor
@@ -115,6 +133,11 @@ workedAll w (t ∷ ts) = workedAll (worked w t) ts
 unfoldable pub taskCalls : ℕ → Task → List Call
 taskCalls n (call c) = c ∷ []
 taskCalls n (replay j) = map edit (made n j)
+
+-- what the plain machine answers to a task: to a journal the number that it stops with
+unfoldable pub taskRefusal : Machine → Task → ℕ
+taskRefusal m (call c) = machineRefusal m c
+taskRefusal m (replay j) = stopOf (length (m .bytes)) j .0
 
 -- where a task stops there, if it is a journal
 unfoldable pub taskStops : ℕ → Task → List (ℕ × ℕ)
@@ -128,6 +151,11 @@ asCalls r (t ∷ ts) =
     let calls = taskCalls (length (r .machine .bytes)) t in
     calls ++ asCalls (run r calls) ts
 
+-- what the plain machine answers to each task of a list
+unfoldable pub taskRefusals : Run → List Task → List ℕ
+taskRefusals r [] = []
+taskRefusals r (t ∷ ts) = taskRefusal (r .machine) t ∷ taskRefusals (run r (taskCalls (length (r .machine .bytes)) t)) ts
+
 -- where the plain machine stops in each journal of a list
 unfoldable pub machineStops : Run → List Task → List (ℕ × ℕ)
 machineStops r [] = []
@@ -135,24 +163,30 @@ machineStops r (t ∷ ts) =
     let n = length (r .machine .bytes) in
     taskStops n t ++ machineStops (run r (taskCalls n t)) ts
 
--- an editor that replays journals is that of a run in which they stand as their edits, and it stops in them where the plain machine does
-pub record SameEditor (w : Editor) (r : Run) (machine : List (ℕ × ℕ)) : Type 0 where
+-- an editor that replays journals, from a run's state on, is that of r, the run in which they stand as their edits: state, total and seal numbers
+-- are r's, and the slips those that r's calls wrote. It answers to each task what the plain machine does, and stops in journals where that does
+pub record SameEditor (begin : Run) (ts : List Task) (w : Editor) (r : Run) : Type 0 where
   pub state : w .state ≡ r .state
   pub total : w .total ≡ r .total
-  pub stops : w .stops ≡ machine
+  pub refusals : w .refusals ≡ taskRefusals begin ts
+  pub numbers : w .numbers ≡ r .numbers
+  pub slips : w .slips ≡ map (λ (x : Written). x .slip) (writtenIn begin (asCalls begin ts))
+  pub stops : w .stops ≡ machineStops begin ts
 
--- so it is from an accepted start and from an accepted read, and demands 2 and 3 hold of that run
+-- so it is from an accepted start and from an accepted read; demands 2 and 3 hold of that run, and its slips age as those of any list
 pub record JournalDemands : Type 1 where
   pub start :
       (s : Start) → AcceptedStart s → (ts : List Task)
       → let begin = begun (started s .state) (blank s) in
       let r = fromStart s (asCalls begin ts) in
-      SameEditor (workedAll (idle (started s .state)) ts) r (machineStops begin ts)
+      SameEditor begin ts (workedAll (idle (started s .state)) ts) r
       × TwoRuns s r
       × (r .truth → Sealing (s .key) (s .arm) r)
+      × Ages (writtenIn begin (asCalls begin ts)) r
   pub read :
       (f : Reading) → AcceptedRead f → (ts : List Task)
       → let begin = begun (readFile f .state) (lent f) in
       let r = fromRead f (asCalls begin ts) in
-      SameEditor (workedAll (idle (readFile f .state)) ts) r (machineStops begin ts)
+      SameEditor begin ts (workedAll (idle (readFile f .state)) ts) r
       × (r .truth → Sealing (f .key) (f .arm) r)
+      × Ages (writtenIn begin (asCalls begin ts)) r
