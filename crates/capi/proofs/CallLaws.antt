@@ -1,11 +1,9 @@
 -- The calls on a lent state: each is the file keeper's own, between the bytes that are read and those that are written. One law takes each
 -- group of calls to its definition, and one serves each return of the code that writes an answer.
-use mathlib.Core.Path.{_≡_, refl, sym, ap, ap₂, _∙_}
-use mathlib.Core.Bool.{Bool, true, false, cond}
+use mathlib.Core.Path.{_≡_, sym, ap, ap₂, _∙_}
 use mathlib.Core.List.{List}
 use Prim.Native.Nat.{ℕ}
 use native.Mathlib.Omega.{arith}
-use lib.Dec.{eqb}
 use borrow.Author.Tests.{eq-eqb, ne-eqb}
 use Rattle.field.specs.declared.multiplying.Count.{Count}
 use Rattle.file.specs.declared.causes.Cause.{Cause}
@@ -19,7 +17,7 @@ use Rattle.file.specs.declared.sealing.Checked.{Checked}
 use Rattle.file.specs.declared.sealing.Checked.the-variants as answered
 use Rattle.file.specs.Contracts.{causeNumber, answerRefusal, outcomeRefusal, outcomeCount, stateAnswer, sealAnswer, checkAnswer}
 use Rattle.file.specs.Edits.{Edit}
-use Rattle.file.specs.States.{StateAnswer, Start, started, edited}
+use Rattle.file.specs.States.{StateAnswer, Start, started, Reading, readFile, edited}
 use Rattle.file.specs.Slips.{SealAnswer, sealed, CheckAnswer, checked}
 use Rattle.file.proofs.ShapeLaws.{cause-pos}
 use Rattle.journal.specs.declared.replaying.Replayed.{Replayed}
@@ -27,7 +25,8 @@ use Rattle.journal.specs.Contracts as journal
 use Rattle.journal.specs.Contracts.{replayAnswer}
 use Rattle.journal.specs.Journals.{replayed}
 use Rattle.capi.specs.Bytes.{packedState, stateFrom}
-use Rattle.capi.specs.Calls.{EditCall, kept, editCall, startCall, ReadCall, keptUncounted, SealCall, stamped, sealCall, CheckCall, verdictByte, judged, checkCall, written, replayCall}
+use Rattle.capi.specs.Calls.{EditCall, kept, editCall, startCall, readCall, SealCall, stamped, sealCall}
+use Rattle.capi.specs.Calls.{CheckCall, verdictByte, judged, checkCall, written, replayCall}
 use Rattle.capi.specs.Contracts.{editResult, readResult, sealResult, checkResult, replayResult}
 
 -- a number that is a cause's is not 0
@@ -64,21 +63,12 @@ pub start-call : (s : Start) (state : List ℕ) (count : ℕ) {a : StateAnswer} 
 unfolding startCall
 start-call s state count ea ex = ex ∙ ap (λ (b : StateAnswer). kept b state count) ea
 
--- without the count
-uncounted : EditCall → ReadCall
-uncounted x = readResult (x .refusal) (x .state)
-
-kept-read : (t : Bool) (n m c : ℕ) (b s : List ℕ)
-    → uncounted (cond t (editResult 0 b m) (editResult n s c)) ≡ cond t (readResult 0 b) (readResult n s)
-unfolding uncounted
-kept-read true n m c b s = refl
-kept-read false n m c b s = refl
-
-pub read-call : (state : List ℕ) (count : ℕ) {a b : StateAnswer} {x : EditCall} → a ≡ b → x ≡ kept a state count
-    → readResult (x .refusal) (x .state) ≡ keptUncounted b state
-unfolding kept keptUncounted uncounted
-read-call state count {a} {b} e ex =
-    ap uncounted (ex ∙ ap (λ (y : StateAnswer). kept y state count) e) ∙ kept-read (eqb (b .refusal) 0) _ _ _ _ _
+-- the read, which has no count
+pub read-call : (r : Reading) (state : List ℕ) {a : StateAnswer} {x : EditCall} → a ≡ readFile r → x ≡ kept a state 0
+    → readResult (x .refusal) (x .state) ≡ readCall r state
+unfolding readCall
+read-call r state ea ex =
+    ap (λ (y : EditCall). readResult (y .refusal) (y .state)) (ex ∙ ap (λ (b : StateAnswer). kept b state 0) ea)
 
 -- ---- seal
 

@@ -42,14 +42,11 @@ pub record ReadCall : Type 0 where
   pub refusal : ℕ
   pub state : List ℕ
 
--- as `kept`, with no count (document 01, "Causes and their numbers")
-unfoldable pub keptUncounted : StateAnswer → (state : List ℕ) → ReadCall
-keptUncounted a state =
-    cond (eqb (a .refusal) 0) (record { refusal = 0; state = packedState (a .state) }) (record { refusal = a .refusal; state = state })
-
--- read: the file keeper's `readFile`, its state as `packedState` (document 01, "The file and its five edits")
+-- read: the file keeper's `readFile`, kept as a start is but for the count, which it has none of (document 01, "The file and its five edits")
 unfoldable pub readCall : Reading → (state : List ℕ) → ReadCall
-readCall r state = keptUncounted (readFile r) state
+readCall r state =
+    let a = kept (readFile r) state 0 in
+    record { refusal = a .refusal; state = a .state }
 
 -- ---- seal
 

@@ -5,16 +5,17 @@ use mathlib.Core.Logic.{_≢_}
 use mathlib.Core.List.{List, [], _∷_, _++_}
 use Prim.Native.Nat.{ℕ, _+_, _<_}
 use lib.ListN.{length, getD}
+use Rattle.file.specs.Edits.{Edit}
 use Rattle.file.specs.States.{Start, Reading, started, readFile}
-use Rattle.file.specs.Slips.{sealed, checked}
 use Rattle.file.specs.Calls.{Call, edit, seal, check}
 use Rattle.file.specs.Machine.{blank, lent as lentFile}
 use Rattle.file.specs.Runs.{Run, begun, fromStart, fromRead}
 use Rattle.file.specs.Demands.{AcceptedStart, AcceptedRead}
-use Rattle.journal.specs.Journals.{replayRefusal, replayed}
-use Rattle.journal.specs.Singly.{Task, call, replay, asCalls}
+use Rattle.journal.specs.Journals.{replayRefusal}
+use Rattle.journal.specs.Singly.{Task, call, replay, asCalls, taskRefusals}
 use Rattle.capi.specs.Bytes.{stateBytes, stateFrom}
-use Rattle.capi.specs.Calls.{EditCall, editCall, startCall, readCall, sealCall, checkCall, judged, replayCall, written}
+use Rattle.capi.specs.Calls.{EditCall, editCall, startCall, readCall, sealCall, checkCall, replayCall}
+use Rattle.capi.specs.Leaves.{StartLeaves, ReadLeaves, EditLeaves, SealLeaves, CheckLeaves, ReplayLeaves}
 
 -- one call: its refusal, the lent state afterwards, which a check can't write, and the count it reports, 0 where it reports none; it serves
 -- laws alone
@@ -58,30 +59,42 @@ unfoldable pub lentTasks : LentRun → List Task → LentRun
 lentTasks l [] = l
 lentTasks l (t ∷ ts) = lentTasks (lentWith l (lentTask (l .state) t)) ts
 
--- the lent bytes hold the editor's state of a run, the counts are the editor's, and so are what a seal writes, what a check finds and what a replay
--- leaves next; the boundary's own statement, in no paper
+-- the lent bytes hold the editor's state of a run, the counts are the editor's, and so is what each call that may come next leaves, whatever is
+-- lent to it; the boundary's own statement, in no paper
 pub record Held (l : LentRun) (r : Run) : Type 0 where
   pub state : stateFrom (l .state) ≡ r .state
   pub total : l .total ≡ r .total
-  pub slips : (out : List ℕ) → sealCall (l .state) out .slip ≡ sealed (r .state) out .slip
-  pub verdicts : (slip : List ℕ) (verdict : ℕ) → checkCall (l .state) slip verdict ≡ judged (checked (r .state) slip) verdict
-  pub replays : (j : List ℕ) → replayCall (l .state) j ≡ written (replayed (r .state) j)
+  pub edits : (e : Edit) (count : ℕ) → EditLeaves (l .state) (r .state) e count
+  pub seals : (out : List ℕ) → SealLeaves (l .state) (r .state) out
+  pub checks : (slip : List ℕ) (verdict : ℕ) → CheckLeaves (l .state) (r .state) slip verdict
+  pub replays : (j : List ℕ) → ReplayLeaves (l .state) (r .state) j
 
--- and the refusals are the editor's; the boundary's own
-pub record Boundary (l : LentRun) (r : Run) : Type 0 where
+-- and the numbers answered are these; the boundary's own
+pub record Boundary (l : LentRun) (r : Run) (answered : List ℕ) : Type 0 where
   pub held : Held l r
-  pub refusals : l .refusals ≡ r .refusals
+  pub refusals : l .refusals ≡ answered
 
--- so after any list of calls from an accepted start and from an accepted read, whatever bytes were lent; and after any list in which journals stand
--- as well, of the run in which they stand as their edits. A journal that is refused as a whole leaves the lent state as it was. The boundary's own
+-- a start and a read leave what the file keeper's do, whatever was lent. After any list of calls from an accepted start and from an accepted
+-- read the lent bytes hold the editor's state, and the numbers are the editor's; after any list in which journals stand as well, the state is
+-- that of the run in which they stand as their edits, and the numbers are the plain machine's, task by task. A journal that is refused as a whole
+-- leaves the lent state as it was. The boundary's own
 pub record BoundaryTheorem : Type 0 where
-  pub start : (s : Start) → AcceptedStart s → (lent : List ℕ) (count : ℕ) (calls : List Call)
-      → Boundary (lentRun (lentBegun (startCall s lent count .state)) calls) (fromStart s calls)
-  pub read : (r : Reading) → AcceptedRead r → (lent : List ℕ) (calls : List Call)
-      → Boundary (lentRun (lentBegun (readCall r lent .state)) calls) (fromRead r calls)
-  pub start-tasks : (s : Start) → AcceptedStart s → (lent : List ℕ) (count : ℕ) (ts : List Task)
-      → Held (lentTasks (lentBegun (startCall s lent count .state)) ts) (fromStart s (asCalls (begun (started s .state) (blank s)) ts))
-  pub read-tasks : (r : Reading) → AcceptedRead r → (lent : List ℕ) (ts : List Task)
-      → Held (lentTasks (lentBegun (readCall r lent .state)) ts) (fromRead r (asCalls (begun (readFile r .state) (lentFile r)) ts))
-  pub whole : (state j : List ℕ) → length state ≡ stateBytes → ((i : ℕ) → i < stateBytes → getD state i 0 < 256)
+  pub starts : (s : Start) (lent : List ℕ) (count : ℕ) → StartLeaves s lent count
+  pub reads : (r : Reading) (lent : List ℕ) → ReadLeaves r lent
+  pub start :
+      (s : Start) → AcceptedStart s → (lent : List ℕ) (count : ℕ) (calls : List Call)
+      → Boundary (lentRun (lentBegun (startCall s lent count .state)) calls) (fromStart s calls) (fromStart s calls .refusals)
+  pub read :
+      (r : Reading) → AcceptedRead r → (lent : List ℕ) (calls : List Call)
+      → Boundary (lentRun (lentBegun (readCall r lent .state)) calls) (fromRead r calls) (fromRead r calls .refusals)
+  pub start-tasks :
+      (s : Start) → AcceptedStart s → (lent : List ℕ) (count : ℕ) (ts : List Task)
+      → let begin = begun (started s .state) (blank s) in
+      Boundary (lentTasks (lentBegun (startCall s lent count .state)) ts) (fromStart s (asCalls begin ts)) (taskRefusals begin ts)
+  pub read-tasks :
+      (r : Reading) → AcceptedRead r → (lent : List ℕ) (ts : List Task)
+      → let begin = begun (readFile r .state) (lentFile r) in
+      Boundary (lentTasks (lentBegun (readCall r lent .state)) ts) (fromRead r (asCalls begin ts)) (taskRefusals begin ts)
+  pub whole :
+      (state j : List ℕ) → length state ≡ stateBytes → ((i : ℕ) → i < stateBytes → getD state i 0 < 256)
       → replayRefusal (stateFrom state .n) j ≢ 0 → replayCall state j .state ≡ state

@@ -1,6 +1,5 @@
 -- `capi::armfile_read` meets its contract. It is `State::read`, kept where it is accepted (`CallLaws`).
 use borrow.Author.Needs.{needs}
-use Rattle.capi.specs.Calls.{readCall}
 use Rattle.capi.proofs.CallLaws.{read-call}
 use Rattle.capi.proofs.armfile_read.Statement.{statement}
 use Rattle.capi.proofs.armfile_read.Tie as tie
@@ -12,7 +11,6 @@ keep-requires : tie.Need-keep-requires
 keep-requires c κs = search needs
 
 returns : tie.Need-returns
-unfolding readCall
 returns c = read-call _ _ (c .before .before .before .read .ensures) (c .keep .ensures)
 
 pub armfile-read-spec : {M : Type 1} → statement M
