@@ -45,7 +45,7 @@ supported-turned key iv p a s = rw (length-turned key iv p) s
 -- ---- the ways in which a call ends
 
 -- a number is 0 or it is not
-zero-or-not : (n : ℕ) → (n ≡ 0) ⊎ (n ≢ 0)
+pub zero-or-not : (n : ℕ) → (n ≡ 0) ⊎ (n ≢ 0)
 zero-or-not zero = inl refl
 zero-or-not (suc n) = inr (λ e. omega arith)
 

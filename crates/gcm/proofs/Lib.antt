@@ -7,3 +7,4 @@ pub mod Refusals
 pub mod GmacLaws
 pub mod TextLaws
 pub mod GcmTheorem
+pub mod GcmMet

@@ -1,4 +1,4 @@
--- The refusals that lengths decide: forwards, past the causes of key, nonce and tag; backwards, what holds where nothing is refused, and that
+-- The refusals that lengths decide: forwards, past the causes of key and nonce; backwards, what holds where nothing is refused, and that
 -- nothing is where it holds. And that GMAC's are those of no text.
 use mathlib.Core.Path.{_≡_, refl, sym, ap, _∙_}
 use mathlib.Core.Bool.{true, false, not}
@@ -35,11 +35,12 @@ pub record Accepted (key nonce a text out tag : List ℕ) : Type 0 where
   pub short-text : length text ≤ maxText
 
 module _ (key nonce a text out tag : List ℕ) where
-  -- past the tag's cause
-  pub past-tag : {x : ℕ} → not (keyFits key) ≡ false → (length nonce ≡ 0 → ⊥) → length tag ≡ 16
-      → x ≡ first ((not (eqb (length text) (length out)), 7) ∷ longCauses nonce a text) → x ≡ gcmRefusal key nonce a text out tag
+  -- past the nonce's cause
+  pub past-nonce : {x : ℕ} → not (keyFits key) ≡ false → (length nonce ≡ 0 → ⊥)
+      → x ≡ first ((not (eqb (length tag) 16), 7) ∷ (not (eqb (length text) (length out)), 7) ∷ longCauses nonce a text)
+      → x ≡ gcmRefusal key nonce a text out tag
   unfolding gcmRefusal
-  past-tag k n t e = first-later _ _ _ k (first-later _ _ _ (ne-eqb _ _ n) (first-later _ _ _ (agree t) e))
+  past-nonce k n e = first-later _ _ _ k (first-later _ _ _ (ne-eqb _ _ n) e)
 
   pub gcm-accepted : gcmRefusal key nonce a text out tag ≡ 0 → Accepted key nonce a text out tag
   unfolding gcmRefusal
@@ -64,10 +65,11 @@ module _ (key nonce a text out tag : List ℕ) where
   pub gcm-accepts : Accepted key nonce a text out tag → gcmRefusal key nonce a text out tag ≡ 0
   gcm-accepts h =
       sym
-      (past-tag (ap not (h .fits)) (h .some-nonce) (h .size)
+      (past-nonce (ap not (h .fits)) (h .some-nonce)
+      (first-later _ _ _ (agree (h .size))
       (first-later _ _ _ (agree (h .same))
       (first-later _ _ _ (le-ltb _ _ (h .short-nonce))
-      (first-later _ _ _ (le-ltb _ _ (h .short)) (first-later _ _ _ (le-ltb _ _ (h .short-text)) first-none)))))
+      (first-later _ _ _ (le-ltb _ _ (h .short)) (first-later _ _ _ (le-ltb _ _ (h .short-text)) first-none))))))
 
 -- no cause has the number 0
 cause-pos : (c : Cause) → 0 < causeNumber c

@@ -5,4 +5,5 @@ pub mod Authenticated
 pub mod Answers
 pub mod Contracts
 pub mod GcmTheorem
+pub mod GcmMet
 pub mod Gcm

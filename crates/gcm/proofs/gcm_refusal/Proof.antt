@@ -2,10 +2,10 @@
 use mathlib.Core.Path.{sym, ap, _∙_}
 use mathlib.Core.Bool.{not}
 use borrow.Author.Needs.{needs}
-use borrow.Author.Tests.{eq-eqb, ne-eqb}
+use borrow.Author.Tests.{eq-eqb}
 use Rattle.refusals.proofs.Laws.{first-here, first-later, differ, agree}
 use Rattle.gcm.specs.Answers.{gcmRefusal}
-use Rattle.gcm.proofs.Refusals.{past-tag}
+use Rattle.gcm.proofs.Refusals.{past-nonce}
 use Rattle.gcm.proofs.gcm_refusal.Statement.{statement}
 use Rattle.gcm.proofs.gcm_refusal.Tie as tie
 
@@ -23,20 +23,19 @@ returns-2 c =
     first-later _ _ _ (ap not (sym (key .before .fits2 .ensures)) ∙ key .if1 .left) (first-here _ _ _ (eq-eqb _ _ (c .if2 .taken)))
 
 returns-3 : tie.Need-returns-3
-unfolding gcmRefusal
 returns-3 c =
     let nonce = c .before in
     let key = nonce .before in
-    first-later _ _ _ (ap not (sym (key .before .fits2 .ensures)) ∙ key .if1 .left)
-    (first-later _ _ _ (ne-eqb _ _ (nonce .if2 .left)) (first-here _ _ _ (differ (c .if3 .taken))))
+    past-nonce _ _ _ _ _ _ (ap not (sym (key .before .fits2 .ensures)) ∙ key .if1 .left) (nonce .if2 .left)
+    (first-here _ _ _ (differ (c .if3 .taken)))
 
 returns-4 : tie.Need-returns-4
 returns-4 c =
     let tag = c .before in
     let nonce = tag .before in
     let key = nonce .before in
-    past-tag _ _ _ _ _ _ (ap not (sym (key .before .fits2 .ensures)) ∙ key .if1 .left) (nonce .if2 .left) (tag .if3 .left)
-    (first-here _ _ _ (differ (c .if4 .taken)))
+    past-nonce _ _ _ _ _ _ (ap not (sym (key .before .fits2 .ensures)) ∙ key .if1 .left) (nonce .if2 .left)
+    (first-later _ _ _ (agree (tag .if3 .left)) (first-here _ _ _ (differ (c .if4 .taken))))
 
 long-refusal-requires : tie.Need-long-refusal-requires
 long-refusal-requires c κs = search needs
@@ -47,8 +46,8 @@ returns-5 c =
     let tag = text .before in
     let nonce = tag .before in
     let key = nonce .before in
-    past-tag _ _ _ _ _ _ (ap not (sym (key .before .fits2 .ensures)) ∙ key .if1 .left) (nonce .if2 .left) (tag .if3 .left)
-    (first-later _ _ _ (agree (text .if4 .left)) (c .long-refusal .ensures))
+    past-nonce _ _ _ _ _ _ (ap not (sym (key .before .fits2 .ensures)) ∙ key .if1 .left) (nonce .if2 .left)
+    (first-later _ _ _ (agree (tag .if3 .left)) (first-later _ _ _ (agree (text .if4 .left)) (c .long-refusal .ensures)))
 
 pub gcm-refusal-spec : {M : Type 1} → statement M
 gcm-refusal-spec =
