@@ -1,7 +1,9 @@
 -- What the loop over the file keeps, and what the lines that are printed at its end say. They rest on the field's laws of a stream.
-use mathlib.Core.Path.{_≡_, refl, ap, ap₂, _∙_}
+use mathlib.Core.Path.{_≡_, refl, sym, ap, ap₂, _∙_}
+use mathlib.Core.Bool.{Bool, true, false, false≢true}
 use mathlib.Core.List.{List, [], _++_}
-use Prim.Native.Nat.{ℕ, _+_, _*_, _≤_}
+use Prim.Native.Nat.{ℕ, _+_, _*_, _≤_, _<_}
+use native.Mathlib.Decide.{decLt}
 use native.Mathlib.Omega.{arith}
 use lib.ListN.{length, take, length-append}
 use lib.Seq.{length-take-le}
@@ -35,6 +37,10 @@ took-more {h = h} t j whole input′ s′ n buf l e f a =
       fits = omega (arith, took-count t);
     }
 
+-- where there may be more, a buffer that else is the last is full
+pub full : {n size : ℕ} {more : Bool} → n ≤ size → (n < size → more ≡ false) → more ≡ true → n ≡ size
+full {n} {size} l f e = elim (decLt n size) [ yes h ↦ absurd (false≢true (sym (f h) ∙ e)) | no h ↦ omega arith ]
+
 -- what the loop keeps: it took whole blocks, and its buffer keeps its length
 pub record Between (input : Input) (h : Block) (s : Stream) (buf : List ℕ) : Type 0 where
   pub took : Took input h s
@@ -63,8 +69,8 @@ between-more b input′ s′ n buf′ full same e f a =
     }
 
 -- what is printed at the end: the lines of the file that the stream took, with GHASH of the whole of it
-pub printed : {input : Input} {h : Block} {s : Stream} (r : ReadWhole input h s)
-    → fileLines (s .n) (finished s) ≡ fileLines (length (r .took .file)) (ghash h (r .took .file) [])
-printed {h = h} r =
+pub printed : {input : Input} {h : Block} {s : Stream} (r : ReadWhole input h s) {hash : Block} → hash ≡ finished s
+    → fileLines (s .n) hash ≡ fileLines (length (r .took .file)) (ghash h (r .took .file) [])
+printed {h = h} r e =
     let t = r .took in
-    ap₂ fileLines (took-count t) (ap finished (t .taken) ∙ streamed-ghash h (t .file) (t .fits))
+    ap₂ fileLines (took-count t) (e ∙ ap finished (t .taken) ∙ streamed-ghash h (t .file) (t .fits))

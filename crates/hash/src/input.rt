@@ -45,9 +45,11 @@ impl Input {
         self.failed
     }
 
-    // Reads once. A read that gives nothing is the input's end, or failed. The requires: the count of bytes has room.
+    // Reads once. A read that gives nothing is the input's end, or failed. The requires: something can be given, and the count of bytes has
+    // room.
     pub fn read(self, buf: &mut [u8]) -> Given
-        requires { ⌜ self .n + length (now buf) < 2 ^ 64 ⌝ }
+        requires some { ⌜ 0 < length (now buf) ⌝ }
+        requires room { ⌜ self .n + length (now buf) < 2 ^ 64 ⌝ }
         ensures within { λ r. ⌜ r .n ≤ length (now (buf .exit)) ⌝ }
         ensures going { λ r. ⌜ r .input .more ≡ ltb 0 (r .n) ⌝ }
         ensures counted { λ r. ⌜ r .input .n ≡ self .n + r .n ⌝ }

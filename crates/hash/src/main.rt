@@ -13,10 +13,10 @@ use libc::STDOUT_FILENO;
 use lines::LINES_BYTES;
 use lines::lines;
 ghost use mathlib.Core.Path.{_≡_};
-ghost use mathlib.Core.Bool.{true};
+ghost use mathlib.Core.Bool.{true, false};
 ghost use Prim.Native.Nat.{_+_, _≤_, _<_, _^_};
 ghost use lib.ListN.{length};
-ghost use Rattle.hash.specs.Reading.{ReadWhole};
+ghost use Rattle.hash.specs.Reading.{ReadWhole, TooShort, TooLong, Due};
 
 fn main() {
     if os::arg_count() > 1 {
@@ -27,11 +27,11 @@ fn main() {
     let given = fill(Input::new(), &mut key);
     let input = given.input;
     if input.failed() {
-        unreadable();
+        unreadable(input);
         return;
     }
     if given.n < 16 {
-        say(b"refused 1\n");
+        too_short(input);
         return;
     }
     hash_file(input, Block::from_bytes(&key));
@@ -41,7 +41,7 @@ fn main() {
 fn fill(input: Input, buf: &mut [u8]) -> Given
     requires { ⌜ input .n + length (now buf) < 2 ^ 64 ⌝ }
     ensures within { λ r. ⌜ r .n ≤ length (now (buf .exit)) ⌝ }
-    ensures full { λ r. ⌜ (r .input .more ≡ true → r .n ≡ length (now (buf .exit))) ⌝ }
+    ensures full { λ r. ⌜ (r .n < length (now (buf .exit)) → r .input .more ≡ false) ⌝ }
     ensures counted { λ r. ⌜ r .input .n ≡ input .n + r .n ⌝ }
 {
     let mut source = input;
@@ -70,12 +70,12 @@ fn hash_file(input: Input, h: Block)
         let next = given.input;
         source = next;
         if source.failed() {
-            unreadable();
+            unreadable(source);
             return;
         }
         let n = given.n;
-        if MAX_BYTES - stream.n < n as u64 {
-            too_long();
+        if stream.n > MAX_BYTES - n as u64 {
+            too_long(source);
             return;
         }
         let longer = stream.absorb(&buf[..n]);
@@ -93,24 +93,37 @@ fn print(input: Input, h: Block, s: Stream)
 {
     let mut out = [0u8; LINES_BYTES];
     let k = lines(s.n, s.finish(), &mut out);
-    say(&out[..k]);
+    say(input, &out[..k]);
+}
+
+// Refuses an input under 16 bytes.
+fn too_short(input: Input)
+    requires { ⌜ TooShort input ⌝ }
+{
+    say(input, b"refused 1\n");
+}
+
+// Refuses a file of more than 2^61 - 1 bytes.
+fn too_long(input: Input)
+    requires { ⌜ TooLong input ⌝ }
+{
+    say(input, b"refused 2\n");
 }
 
 // Writes to standard output, by one call where that takes all of the text. Where the text can't be written, the line at which it stopped has
-// no end.
-fn say(text: &[u8]) {
+// no end. Nothing else writes there. The requires: the text is what is to be printed for the input.
+fn say(input: Input, text: &[u8])
+    requires { ⌜ Due input (now text) ⌝ }
+{
     if !io::write_all(STDOUT_FILENO, text) {
         complain(b"hash: standard output cannot be written\n");
     }
 }
 
-// Refuses a file of more than 2^61 - 1 bytes.
-fn too_long() {
-    say(b"refused 2\n");
-}
-
-// A failed read is told apart from the end of the input, and no hash is printed.
-fn unreadable() {
+// A failed read is told apart from the end of the input, and no hash is printed. The requires: a read failed.
+fn unreadable(input: Input)
+    requires { ⌜ input .failed ≡ true ⌝ }
+{
     complain(b"hash: standard input cannot be read\n");
 }
 

@@ -6,10 +6,10 @@ use Rattle.demo.proofs.print_bytes.Statement.{statement}
 use Rattle.demo.proofs.print_bytes.Tie as tie
 
 abbrev Inv-loop : tie.InvT-loop
-Inv-loop s i₀ i = i ≤ length s
+Inv-loop told₀ s i₀ told i = i ≤ length s
 
 abbrev μ-loop : tie.MeasureT-loop
-μ-loop s i₀ i = length s - i
+μ-loop told₀ s i₀ told i = length s - i
 
 loop-holds : tie.Need-loop-holds Inv-loop μ-loop
 loop-holds c = search needs

@@ -1,7 +1,6 @@
 -- `hash::fill` meets its contract. The loop's invariant: n bytes were given, within the buffer, which keeps its length, and the input has
 -- counted them.
 use mathlib.Core.Path.{_≡_, sym, _∙_}
-use mathlib.Core.Bool.{true, false, false≢true}
 use mathlib.Core.List.{List}
 use Prim.Native.Nat.{ℕ, _+_, _-_, _≤_, _<_}
 use native.Mathlib.Omega.{arith}
@@ -61,7 +60,8 @@ read-requires : tie.Need-read-requires Inv-loop μ-loop
 read-requires c κs =
     let f = c .before .before .loop .inv in
     let at = c .before .before .loop in
-    simp (length-take, length-drop) (omega (arith, f .within, f .size, f .counted))
+    let size : length (midOf (at .n) (length (at .buf) - at .n) (at .buf)) ≡ length (at .buf) - at .n = simp (length-take, length-drop) (omega arith) in
+    (omega (arith, size), omega (arith, size, f .within, f .size, f .counted))
 
 add-n : tie.Need-add-n Inv-loop μ-loop
 add-n c =
@@ -77,7 +77,7 @@ same-length c = given-more (c .before .before .before .before .before .before) .
 returns : tie.Need-returns Inv-loop μ-loop
 returns c =
     let f = given-more (c .before .before .before .before .before .before) in
-    (f .within, (λ m. absurd (false≢true (sym (not-true _ (c .if1 .taken)) ∙ c .before .more .ensures ∙ m)), f .counted))
+    (f .within, (λ l. sym (c .before .more .ensures) ∙ not-true _ (c .if1 .taken), f .counted))
 
 loop-less : tie.Need-loop-less Inv-loop μ-loop
 loop-less c =
@@ -95,7 +95,7 @@ same-length-2 c = search needs
 returns-2 : tie.Need-returns-2 Inv-loop μ-loop
 returns-2 c =
     let f = c .before .loop .inv in
-    (f .within, (λ m. omega (arith, f .within), f .counted))
+    (f .within, (λ l. absurd (omega arith), f .counted))
 
 pub fill-spec : {M : Type 1} → statement M
 fill-spec =

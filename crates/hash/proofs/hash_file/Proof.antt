@@ -8,7 +8,7 @@ use borrow.Author.Tests.{not-true, not-false}
 use lib.ListN.{length}
 use lib.Seq.{length-take-le}
 use Rattle.field.specs.Field.{maxBytes}
-use Rattle.hash.proofs.ReadingLaws.{took-count, took-fits, took-more, Between, between-none, between-more}
+use Rattle.hash.proofs.ReadingLaws.{took-count, took-fits, took-more, full, Between, between-none, between-more}
 use Rattle.hash.proofs.hash_file.Statement.{statement}
 use Rattle.hash.proofs.hash_file.Tie as tie
 
@@ -54,10 +54,16 @@ returns : tie.Need-returns Inv-loop μ-loop
 returns c = search needs
 
 sub-if2 : tie.Need-sub-if2 Inv-loop μ-loop
-sub-if2 c = took-fits (c .before .before .before .before .before .before .before .loop .inv .took)
+sub-if2 c =
+    let fill = c .before .before .before .before .fill in
+    let b = c .before .before .before .before .before .before .loop .inv in
+    omega (arith, fill .ensures .0, fill .kept .1 .0, b .size)
 
 too-long-requires : tie.Need-too-long-requires Inv-loop μ-loop
-too-long-requires c κs = search needs
+too-long-requires c κs =
+    let fill = c .before .before .before .before .before .before .fill in
+    let b = c .before .before .before .before .before .before .before .before .loop .inv in
+    record { long = omega (arith, c .if2 .taken, fill .ensures .1 .1, b .took .all, took-count (b .took)) }
 
 returns-2 : tie.Need-returns-2 Inv-loop μ-loop
 returns-2 c = search needs
@@ -85,20 +91,23 @@ print-requires c κs =
     let b = failed .before .before .before .before .before .loop .inv in
     record {
       took = took-more (b .took) (b .count) (b .whole) _ _ _ _ (fill .ensures .0) (fill .ensures .1 .1) (room a) (a .absorb .ensures);
-      ended = sym (c .before .more .ensures) ∙ not-true _ (c .if3 .taken);
-      sound = sym (failed .failed .ensures) ∙ a .before .before .before .before .if1 .left;
+      ended =
+          record {
+            no-more = sym (c .before .more .ensures) ∙ not-true _ (c .if3 .taken);
+            sound = sym (failed .failed .ensures) ∙ a .before .before .before .before .if1 .left;
+          };
     }
 
 returns-3 : tie.Need-returns-3 Inv-loop μ-loop
 returns-3 c = search needs
 
 -- while there may be more, the buffer is full
-full : (c : tie.Else3 Inv-loop μ-loop)
+filled : (c : tie.Else3 Inv-loop μ-loop)
     → c .before .before .before .before .before .before .before .before .before .before .fill .result .n
     ≡ length (c .before .before .before .before .before .before .before .before .before .before .fill .last .1 .0)
-full c =
-    c .before .before .before .before .before .before .before .before .before .before .fill .ensures .1 .0
-    (sym (c .before .more .ensures) ∙ not-false _ (c .if3 .left))
+filled c =
+    let fill = c .before .before .before .before .before .before .before .before .before .before .fill in
+    full (fill .ensures .0) (fill .ensures .1 .0) (sym (c .before .more .ensures) ∙ not-false _ (c .if3 .left))
 
 again : (c : tie.Else3 Inv-loop μ-loop)
     → Between (c .before .before .before .before .before .before .before .before .before .before .fill .result .input)
@@ -108,7 +117,7 @@ again c =
     let a = c .before .before in
     let fill = a .before .before .before .before .before .before .before .before .fill in
     let b = a .before .before .before .before .before .before .before .before .before .before .loop .inv in
-    between-more b _ _ _ _ (full c) (fill .kept .1 .0) (fill .ensures .1 .1) (room a) (a .absorb .ensures)
+    between-more b _ _ _ _ (filled c) (fill .kept .1 .0) (fill .ensures .1 .1) (room a) (a .absorb .ensures)
 
 loop-less : tie.Need-loop-less Inv-loop μ-loop
 loop-less c =
@@ -116,7 +125,7 @@ loop-less c =
     let b = c .before .before .before .before .before .before .before .before .before .before .before .before .loop .inv in
     let b′ = again c in
     omega
-    (arith, took-count (b .took), b .took .all, fill .ensures .1 .1, full c, b′ .size, took-count (b′ .took), b′ .took .all, b′ .took .fits)
+    (arith, took-count (b .took), b .took .all, fill .ensures .1 .1, filled c, b′ .size, took-count (b′ .took), b′ .took .all, b′ .took .fits)
 
 loop-again : tie.Need-loop-again Inv-loop μ-loop
 loop-again c = again c

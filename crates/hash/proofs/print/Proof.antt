@@ -1,9 +1,10 @@
--- `hash::print` is safe and ends. What was taken is within the limit (`ReadingLaws`), and the lines fit.
-use mathlib.Core.Path.{sym}
+-- `hash::print` is safe and ends, and the text is the file's lines. What was taken is within the limit (`ReadingLaws`), and the lines fit.
+use mathlib.Core.Path.{sym, _∙_}
 use native.Mathlib.Omega.{arith}
 use borrow.Author.Needs.{needs}
 use lib.Seq.{length-take-le}
-use Rattle.hash.proofs.ReadingLaws.{took-fits}
+use Rattle.hash.specs.Reading.{lines}
+use Rattle.hash.proofs.ReadingLaws.{took-fits, printed}
 use Rattle.hash.proofs.print.Statement.{statement}
 use Rattle.hash.proofs.print.Tie as tie
 
@@ -23,7 +24,11 @@ slice-aggregate-say : tie.Need-slice-aggregate-say
 slice-aggregate-say c = sym (length-take-le _ _ (c .before .before .lines .ensures .0))
 
 say-requires : tie.Need-say-requires
-say-requires c κs = search needs
+say-requires c κs =
+    let text = c .before .before in
+    let hash = text .before .before in
+    let read = hash .before .pre in
+    lines _ _ read (text .lines .ensures .1 ∙ printed read (hash .finish .ensures))
 
 returns : tie.Need-returns
 returns c = search needs
