@@ -48,6 +48,8 @@ extern crate std;
 use core::fmt;
 
 pub mod ffi;
+#[cfg(doctest)]
+mod refused;
 mod wipe;
 
 pub use ffi::{StateBytes, STATE_BYTES};
@@ -70,8 +72,10 @@ pub const MAX_JOURNAL_BYTES: u64 = 1 << 40;
 /// The largest byte length of a text to encrypt or to decrypt: 2^36 - 32.
 pub const MAX_TEXT_BYTES: u64 = (1 << 36) - 32;
 
-/// Why a call was refused.
+/// Why a call was refused. A later version may have more causes, so a `match`
+/// outside this crate needs an arm for those.
 #[derive(Clone, Copy, Debug, PartialEq, Eq, Hash)]
+#[non_exhaustive]
 pub enum Refusal {
     /// 1: key, hash key or block not 16 bytes.
     KeyOrBlockLength,
@@ -167,9 +171,11 @@ impl core::error::Error for Refusal {}
 /// [`Verdict::Current`] is the slip of the newest seal: who takes any genuine
 /// slip takes an old card too.
 ///
-/// As a `u8` a verdict is the library's number for it.
+/// A later version may have more verdicts, so a `match` outside this crate needs
+/// an arm for those, which should take no slip.
 #[must_use = "a slip may be an old one, or not genuine"]
 #[derive(Clone, Copy, Debug, PartialEq, Eq, Hash)]
+#[non_exhaustive]
 pub enum Verdict {
     /// Its length, its arm or its tag is another, whatever its number is.
     NotGenuine = 0,
@@ -187,6 +193,11 @@ pub enum Verdict {
 }
 
 impl Verdict {
+    /// The library's number for the verdict.
+    pub const fn number(self) -> u8 {
+        self as u8
+    }
+
     /// Whether the slip is genuine at all: current, stale or ahead.
     pub const fn is_genuine(self) -> bool {
         !matches!(self, Verdict::NotGenuine)
@@ -197,7 +208,7 @@ impl Verdict {
     fn of(number: u8) -> Result<Verdict, Refusal> {
         use Verdict::{Ahead, Current, NotGenuine, Stale};
         let mut known = [NotGenuine, Current, Stale, Ahead].into_iter();
-        let verdict = known.find(|verdict| *verdict as u8 == number);
+        let verdict = known.find(|verdict| verdict.number() == number);
         verdict.ok_or(Refusal::Unknown(number.into()))
     }
 }
@@ -314,9 +325,9 @@ pub fn gcm_decrypt(
 /// companion, the running sum, the file's length, the arm number and the last
 /// used seal number.
 ///
-/// A state can't be cloned: two copies that seal would use one number twice,
-/// and a repeated number gives the hash key away. For the same reason a state
-/// brought back by [`State::from_bytes`] must be the last one stored.
+/// A state can't be cloned or copied: two copies that seal would use one number
+/// twice, and a repeated number gives the hash key away. For the same reason a
+/// state brought back by [`State::from_bytes`] must be the last one stored.
 ///
 /// A state holds the key. It is wiped when it is dropped; a copy that a move
 /// left behind is not, so make it where it is to stay and lend it from there.
@@ -545,7 +556,6 @@ impl fmt::Debug for State {
 
 #[cfg(test)]
 mod tests {
-    use core::mem::MaybeUninit;
     use std::format;
     use std::string::ToString;
 
@@ -568,7 +578,7 @@ mod tests {
         let words = ["not genuine", "current", "stale", "ahead"];
         for (number, word) in (0..4).zip(words) {
             let verdict = Verdict::of(number).unwrap();
-            assert_eq!(verdict as u8, number);
+            assert_eq!(verdict.number(), number);
             assert_eq!(verdict.to_string(), word);
             assert_eq!(verdict.is_genuine(), number != 0);
         }
@@ -685,22 +695,6 @@ mod tests {
         let state = State::read(&[0x77; 16], 5, 6, &[0xff; 40]).unwrap();
         let shown = format!("{state:?}");
         assert_eq!(shown, "State { length: 40, arm: 5, last: 6, .. }");
-    }
-
-    /// What is dropped in place can still be looked at.
-    #[test]
-    #[allow(unsafe_code)]
-    fn a_dropped_state_is_wiped() {
-        let state = State::read(&[0x77; 16], 5, 6, b"MOVE").unwrap();
-        let mut place = MaybeUninit::new(state);
-        // SAFETY: the state is there and is dropped once; a State is its
-        // bytes, and they are still initialised after the drop.
-        let left = unsafe {
-            assert!(place.assume_init_ref().as_bytes()[..64].contains(&0x77));
-            place.assume_init_drop();
-            place.as_ptr().cast::<StateBytes>().read_volatile()
-        };
-        assert_eq!(left, [0; STATE_BYTES]);
     }
 
     #[test]

@@ -1,14 +1,12 @@
-//! The calls of the interface, as the library, its wrapper and `reference`
-//! make them.
+//! The calls of the interface, as the library's wrapper and `reference` make
+//! them; `library` has the library's own.
 
 use std::fmt;
-use std::hint::black_box;
 
-use armfile::{ffi, Refusal, StateBytes, STATE_BYTES};
+use armfile::{Refusal, StateBytes, STATE_BYTES};
 use reference::journal::Edit;
 use reference::{calls, State};
 
-use crate::guarded::Guarded;
 use crate::hex;
 
 /// A call made by the functions of a module and the methods of its state: the
@@ -52,7 +50,7 @@ macro_rules! made {
                 replayed.refusal.map_or(Ok(()), Err)
             }
             Call::Seal => $held.seal(out),
-            Call::Check { slip } => $held.check(slip).map(|v| $after.verdict = v as u8),
+            Call::Check { slip } => $held.check(slip).map(|v| $after.verdict = v.number()),
         }
     }};
 }
@@ -177,7 +175,7 @@ pub struct Lent {
 pub type Outcome = (u64, Lent);
 
 /// The name of a call, its inputs and its numbers.
-type Parts<'a> = (
+pub(crate) type Parts<'a> = (
     &'static str,
     Vec<(&'static str, &'a [u8])>,
     Vec<(&'static str, u64)>,
@@ -185,7 +183,7 @@ type Parts<'a> = (
 
 impl Call {
     /// The name of the call, its inputs and its numbers.
-    fn parts(&self) -> Parts<'_> {
+    pub(crate) fn parts(&self) -> Parts<'_> {
         match self {
             Call::Encrypt { key, block } => {
                 let inputs = vec![("key", &key[..]), ("block", block)];
@@ -255,83 +253,6 @@ impl Call {
             _ => panic!("{self} is no edit"),
         };
         edit.pack()
-    }
-
-    /// The library's answer to the call, with its inputs by their order in
-    /// `parts`.
-    fn answered<'a>(
-        &self,
-        input: impl Fn(usize) -> &'a [u8],
-        state: &mut StateBytes,
-        [out, tag]: [&mut [u8]; 2],
-        [count, offset]: [&mut u64; 2],
-        verdict: &mut u8,
-    ) -> u64 {
-        match self {
-            Call::Encrypt { .. } => ffi::encrypt(input(0), input(1), out),
-            Call::Multiply { .. } => ffi::multiply(input(0), input(1), out),
-            Call::Ghash { .. } => ffi::ghash(input(0), input(1), input(2), out),
-            Call::Gmac { .. } => ffi::gmac(input(0), input(1), input(2), out),
-            Call::GcmEncrypt { .. } => {
-                ffi::gcm_encrypt(input(0), input(1), input(2), input(3), out, tag)
-            }
-            Call::GcmDecrypt { .. } => {
-                ffi::gcm_decrypt(input(0), input(1), input(2), input(3), out, input(4))
-            }
-            Call::Start {
-                arm, last, n, fill, ..
-            } => ffi::start(input(0), *arm, *last, *n, *fill, state, count),
-            Call::Read { arm, last, .. } => ffi::read(input(0), *arm, *last, input(1), state),
-            Call::Change { p, .. } => ffi::change(state, *p, input(0), input(1), count),
-            Call::Append { .. } => ffi::append(state, input(0), count),
-            Call::Prepend { .. } => ffi::prepend(state, input(0), count),
-            Call::DropFront { .. } => ffi::drop_front(state, input(0), count),
-            Call::CutTail { .. } => ffi::cut_tail(state, input(0), count),
-            Call::Replay { .. } => ffi::replay(state, input(0), count, offset),
-            Call::Seal => ffi::seal(state, out),
-            Call::Check { .. } => ffi::check(state, input(0), verdict),
-        }
-    }
-
-    /// The call by the library's own functions, every buffer lent among
-    /// canaries; or what is wrong with canaries and inputs afterwards.
-    pub fn by_library(&self, before: &Lent, lead: usize) -> Result<Outcome, String> {
-        const CANARY: u64 = 0xa5c3_96f0_0f69_3c5a;
-        let (_, inputs, _) = self.parts();
-        let guard = |(i, &(name, bytes)): (usize, &(&'static str, &[u8]))| {
-            Guarded::new(name, bytes, (lead + 5 * i) % 16)
-        };
-        let mut lent_inputs: Vec<Guarded> = inputs.iter().enumerate().map(guard).collect();
-        let mut state = Guarded::new("state", &before.state, lead);
-        let mut out = Guarded::new("out", &before.out, (lead + 3) % 16);
-        let mut tag = Guarded::new("tag", &before.tag, (lead + 7) % 16);
-        let mut verdict = Guarded::new("verdict", &[before.verdict], lead);
-        let mut numbers = [CANARY, before.count, CANARY, before.offset, CANARY];
-
-        let input = |i: usize| lent_inputs[i].bytes();
-        let lent = state.bytes_mut().try_into().expect("84 bytes");
-        let [_, count, _, offset, _] = &mut numbers;
-        let numbers_lent = [count, offset];
-        let outputs = [out.bytes_mut(), tag.bytes_mut()];
-        let written = &mut verdict.bytes_mut()[0];
-        let answer = self.answered(input, lent, outputs, numbers_lent, written);
-
-        for (guarded, (_, bytes)) in lent_inputs.iter_mut().zip(&inputs) {
-            guarded.unaltered(bytes)?;
-        }
-        let [first, count, second, offset, third] = black_box(numbers);
-        if [first, second, third] != [CANARY; 3] {
-            return Err("wrote outside 'count' and 'offset'".into());
-        }
-        let after = Lent {
-            state: state.after()?.try_into().expect("84 bytes"),
-            out: out.after()?.to_vec(),
-            tag: tag.after()?.to_vec(),
-            count,
-            offset,
-            verdict: verdict.after()?[0],
-        };
-        Ok((answer, after))
     }
 
     /// The call as a controller in Rust makes it.

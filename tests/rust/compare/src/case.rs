@@ -5,11 +5,14 @@
 //! part's number, and what is left the round. COMPARE_SEED runs one case
 //! again; COMPARE_ROUND, a number, takes other random inputs.
 
+use std::sync::Mutex;
 use std::time::Instant;
 
 use reference::random::Random;
 
 use crate::call::{Call, Lent};
+use crate::edge::report_faults;
+use crate::library::{fields, Stand};
 use crate::say;
 
 /// A part of the comparison: its name, how many cases it has, and a case.
@@ -53,17 +56,37 @@ pub struct Case {
     pub random: Random,
     seed: u64,
     tally: Tally,
+}
+
+/// The case that is run, for its report: its seed, how many calls it has begun,
+/// and the latest of them.
+struct Running {
+    seed: u64,
+    calls: u64,
     latest: Option<(Call, Lent)>,
 }
 
+static RUNNING: Mutex<Option<Running>> = Mutex::new(None);
+
 impl Case {
     fn new(seed: u64) -> Case {
-        Case {
+        let case = Case {
             random: Random::new(seed),
             seed,
             tally: Tally::default(),
-            latest: None,
-        }
+        };
+        case.begins(None);
+        case
+    }
+
+    /// Notes a call that begins, or that none has yet.
+    fn begins(&self, latest: Option<(Call, Lent)>) {
+        let calls = self.tally.calls() + u64::from(latest.is_some());
+        *RUNNING.lock().expect("no panic here") = Some(Running {
+            seed: self.seed,
+            calls,
+            latest,
+        });
     }
 
     /// The index of the case in its part, from 0 on.
@@ -80,17 +103,19 @@ impl Case {
     /// them to the same outcome, and leaves in `lent` what it is afterwards.
     /// Returns 0 or the refusal number.
     pub fn call(&mut self, call: &Call, lent: &mut Lent) -> u64 {
-        self.latest = Some((call.clone(), lent.clone()));
+        self.begins(Some((call.clone(), lent.clone())));
         let lead = self.random.below(16) as usize;
         let expected = call.by_reference(lent);
-        let outcome = call.by_library(lent, lead);
-        let (answer, after) = outcome.unwrap_or_else(|fault| panic!("the library {fault}"));
-        if (answer, &after) != (expected.0, &expected.1) {
-            panic!(
-                "not the same\n  library   answers {answer}, {after}\n  \
-                 reference answers {}, {}",
-                expected.0, expected.1
-            );
+        for stand in [Stand::AtThePage, Stand::AmongCanaries(lead)] {
+            let outcome = call.by_library(lent, stand);
+            let (answer, after) = outcome.unwrap_or_else(|fault| panic!("the library {fault}"));
+            if (answer, &after) != (expected.0, &expected.1) {
+                panic!(
+                    "not the same\n  library   answers {answer}, {after}\n  \
+                     reference answers {}, {}",
+                    expected.0, expected.1
+                );
+            }
         }
         let (answer, after) = call.by_wrapper(lent);
         if (answer, &after) != (expected.0, &expected.1) {
@@ -111,29 +136,42 @@ impl Case {
 fn fields_are_read(lent: &Lent) {
     let held = armfile::State::from_bytes(lent.state);
     let read = (held.length(), held.arm(), held.last());
+    let by_library = fields(&lent.state).unwrap_or_else(|fault| panic!("the library {fault}"));
     let fields = lent.fields();
     let expected = (fields.n, fields.arm, fields.last);
     assert_eq!(read, expected, "length, arm and last used number");
+    assert_eq!(by_library, expected, "length, arm and last used number");
     assert_eq!(held.as_bytes(), &lent.state, "the state that was only read");
 }
 
 /// Reports the case where a panic ends it.
 impl Drop for Case {
     fn drop(&mut self) {
-        if !std::thread::panicking() {
-            return;
+        if std::thread::panicking() {
+            report();
         }
-        let calls = self.tally.calls();
-        say(&format!("failed after {calls} calls of this case"));
-        if let Some((call, lent)) = &self.latest {
-            say(&format!("  latest {call}\n  before {lent}"));
-        }
-        let seed = self.seed;
-        say(&format!(
-            "again, from the root of the repository: COMPARE_SEED={seed} ARMFILE_LIB=target/lib \
-             cargo test --offline --manifest-path tests/rust/Cargo.toml -p compare --test compare"
-        ));
     }
+}
+
+/// Reports the case that is run, and how to run it again.
+fn report() {
+    let running = RUNNING.try_lock().ok();
+    let Some(Running {
+        seed,
+        calls,
+        latest,
+    }) = running.as_deref().and_then(Option::as_ref)
+    else {
+        return;
+    };
+    say(&format!("failed at or after call {calls} of this case"));
+    if let Some((call, lent)) = latest {
+        say(&format!("  latest {call}\n  before {lent}"));
+    }
+    say(&format!(
+        "again, from the root of the repository: COMPARE_SEED={seed} ARMFILE_LIB=target/lib \
+         cargo test --offline --manifest-path tests/rust/Cargo.toml -p compare --test compare"
+    ));
 }
 
 /// A number from the environment, if it is set.
@@ -158,6 +196,7 @@ fn run_again(parts: &[Part], seed: u64) {
 /// Runs the parts, or the one case that COMPARE_SEED names. All of them make
 /// at least so many calls, and each number but 13 is answered by some.
 pub fn run(parts: &[Part], least: u64) {
+    report_faults(report);
     if let Some(seed) = given("COMPARE_SEED") {
         return run_again(parts, seed);
     }

@@ -1,16 +1,18 @@
-//! Lent buffers with canaries around them.
+//! Lent buffers: canaries before them, and behind them a page that may not be
+//! touched, or canaries too.
 
-use std::hint::black_box;
+use crate::edge::Edge;
 
-/// The canaries on each side of a buffer.
-const WIDTH: usize = 48;
+/// The canaries before a buffer, and the fewest behind it where there are any.
+/// A multiple of what numbers are aligned to.
+pub const WIDTH: usize = 48;
 
-/// A buffer to lend, in the midst of canaries.
-pub struct Guarded {
+/// A buffer to lend, which stands in the memory of an edge.
+pub struct Guarded<'a> {
     name: &'static str,
-    all: Vec<u8>,
-    first: usize,
+    edge: &'a mut Edge,
     length: usize,
+    behind: usize,
 }
 
 /// The canary at a place; neighbours differ.
@@ -18,45 +20,57 @@ fn canary(place: usize) -> u8 {
     (place as u8).wrapping_mul(7) ^ 0xa5
 }
 
-impl Guarded {
-    /// A copy of the bytes. `lead` moves it in memory, so that a buffer is
-    /// lent at every alignment.
-    pub fn new(name: &'static str, bytes: &[u8], lead: usize) -> Guarded {
-        let first = WIDTH + lead;
+impl<'a> Guarded<'a> {
+    /// A copy of the bytes, with so many canaries between their end and the
+    /// page.
+    pub fn new(name: &'static str, edge: &'a mut Edge, bytes: &[u8], behind: usize) -> Guarded<'a> {
         let length = bytes.len();
-        let mut all: Vec<u8> = (0..first + length + WIDTH).map(canary).collect();
-        all[first..first + length].copy_from_slice(bytes);
-        Guarded {
+        let mut guarded = Guarded {
             name,
-            all,
-            first,
+            edge,
             length,
+            behind,
+        };
+        let [before, inside, after] = guarded.parts();
+        for side in [before, after] {
+            for (place, byte) in side.iter_mut().enumerate() {
+                *byte = canary(place);
+            }
         }
+        inside.copy_from_slice(bytes);
+        guarded
     }
 
-    pub fn bytes(&self) -> &[u8] {
-        &self.all[self.first..self.first + self.length]
+    /// What stands before the buffer, the buffer, and what stands behind it.
+    fn parts(&mut self) -> [&mut [u8]; 3] {
+        let all = self.edge.last(WIDTH + self.length + self.behind);
+        let (before, rest) = all.split_at_mut(WIDTH);
+        let (inside, after) = rest.split_at_mut(self.length);
+        [before, inside, after]
     }
 
-    pub fn bytes_mut(&mut self) -> &mut [u8] {
-        &mut self.all[self.first..self.first + self.length]
+    /// The buffer, as C takes it.
+    pub fn lent(&mut self) -> (*mut u8, usize) {
+        (self.parts()[1].as_mut_ptr(), self.length)
     }
 
-    /// The bytes after a call, or what is wrong with the canaries. The
-    /// compiler is kept from taking the memory to be as it was.
+    /// The bytes after a call, or what is wrong with the canaries.
     pub fn after(&mut self) -> Result<&[u8], String> {
-        black_box(&mut self.all);
-        let inside = self.first..self.first + self.length;
-        for (place, &byte) in self.all.iter().enumerate() {
-            if !inside.contains(&place) && byte != canary(place) {
-                let offset = place as isize - self.first as isize;
+        let (name, length) = (self.name, self.length);
+        let [before, inside, after] = self.parts();
+        for (side, first) in [(before, -(WIDTH as isize)), (after, length as isize)] {
+            let altered = side
+                .iter()
+                .enumerate()
+                .find(|(i, &byte)| byte != canary(*i));
+            if let Some((place, _)) = altered {
+                let offset = first + place as isize;
                 return Err(format!(
-                    "wrote outside '{}', at {offset} of {} bytes",
-                    self.name, self.length
+                    "wrote outside '{name}', at {offset} of {length} bytes"
                 ));
             }
         }
-        Ok(self.bytes())
+        Ok(inside)
     }
 
     /// Holds an input to what was lent.
@@ -65,5 +79,35 @@ impl Guarded {
             return Err(format!("altered its input '{}'", self.name));
         }
         Ok(())
+    }
+}
+
+#[cfg(test)]
+mod tests {
+    use super::*;
+
+    /// A canary that is altered on either side is told, with its place, and so
+    /// is a byte of an input.
+    #[test]
+    fn what_is_altered_is_told() {
+        let (mut edge, lent) = (Edge::new(0), [7; 20]);
+        let places = [
+            (0, 0, "-48"),
+            (0, WIDTH - 1, "-1"),
+            (2, 0, "20"),
+            (2, 5, "25"),
+        ];
+        for (side, place, offset) in places {
+            let mut guarded = Guarded::new("input", &mut edge, &lent, WIDTH);
+            assert_eq!(guarded.unaltered(&lent), Ok(()));
+            guarded.parts()[side][place] ^= 1;
+            let fault = format!("wrote outside 'input', at {offset} of 20 bytes");
+            assert_eq!(guarded.unaltered(&lent), Err(fault));
+        }
+        let mut guarded = Guarded::new("input", &mut edge, &lent, 0);
+        guarded.parts()[1][19] ^= 1;
+        let fault = "altered its input 'input'".to_string();
+        assert_eq!(guarded.unaltered(&lent), Err(fault));
+        assert_eq!(guarded.lent().0.wrapping_add(20), edge.end());
     }
 }

@@ -1,8 +1,10 @@
 //! The library against the second implementation, `reference`: one call made
 //! by both, with all that it is lent compared afterwards.
 //!
-//! - `call`: the calls, as each side makes them.
-//! - `guarded`: lent buffers with canaries around them.
+//! - `call`: the calls, as wrapper and second implementation make them.
+//! - `library`: the calls, as the library makes them.
+//! - `guarded`: lent buffers, with canaries or a forbidden page behind them.
+//! - `edge`: memory that ends at a forbidden page.
 //! - `case`: seeds, counts and the report of a failing case.
 //!
 //! The inputs are chosen in `tests/compare`. `tests/vectors.rs` puts the
@@ -10,11 +12,13 @@
 //! C can claim, `tests/counts.rs` inputs too long for `reference`, and
 //! `tests/strength.rs` hash keys under which files collide.
 
-#![forbid(unsafe_code)]
+#![deny(unsafe_code)]
 
 pub mod call;
 pub mod case;
+pub mod edge;
 pub mod guarded;
+pub mod library;
 
 pub use call::{Call, Lent, Message};
 pub use case::Case;

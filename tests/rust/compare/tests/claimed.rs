@@ -10,6 +10,7 @@ use std::sync::OnceLock;
 
 use armfile::ffi::c;
 use armfile::{MAX_BYTES, MAX_JOURNAL_BYTES, MAX_TEXT_BYTES, SLIP_BYTES};
+use compare::edge::Edge;
 use reference::calls::{block_refusal, gcm_refusal, ghash_refusal, gmac_refusal};
 use reference::journal::{
     replay_refusal, Edit, Head, APPEND, CHANGE, CUT_TAIL, DROP_FRONT, PREPEND,
@@ -58,81 +59,36 @@ const FILES: [u64; 9] = [
 
 /// The longest length for which there are bytes.
 const TRUE: usize = 64;
-static BYTES: [u8; TRUE] = [0x5e; TRUE];
 
 /// The C library's own, which the standard library links.
 mod system {
-    use std::ffi::{c_int, c_void};
+    use std::ffi::c_int;
 
     extern "C" {
-        pub fn mmap(
-            place: *mut c_void,
-            length: usize,
-            protection: c_int,
-            flags: c_int,
-            file: c_int,
-            offset: i64,
-        ) -> *mut c_void;
-        pub fn mprotect(place: *mut c_void, length: usize, protection: c_int) -> c_int;
         pub fn fork() -> c_int;
         pub fn waitpid(process: c_int, status: *mut c_int, options: c_int) -> c_int;
         pub fn _exit(status: c_int) -> !;
     }
 
-    pub const PROT_NONE: c_int = 0;
-    pub const PROT_READ_WRITE: c_int = 3;
-    pub const MAP_PRIVATE_ANONYMOUS: c_int = 0x22;
     pub const SIGSEGV: c_int = 11;
 }
 
-/// The bytes of a page.
-const PAGE: usize = 4096;
-
-/// Pages that may be neither read nor written.
-fn pages(count: usize) -> *mut u8 {
-    let (flags, none) = (system::MAP_PRIVATE_ANONYMOUS, system::PROT_NONE);
-    // SAFETY: a new mapping takes nothing away.
-    let pages = unsafe { system::mmap(std::ptr::null_mut(), count * PAGE, none, flags, -1, 0) };
-    assert_ne!(pages as isize, -1, "no page");
-    pages.cast()
-}
-
-/// A page that may be neither read nor written.
+/// A page that may be neither read nor written. Bytes for the true lengths end
+/// at it.
 fn forbidden() -> *mut u8 {
-    static FORBIDDEN: OnceLock<usize> = OnceLock::new();
-    *FORBIDDEN.get_or_init(|| pages(1) as usize) as *mut u8
-}
-
-/// A page that may be written, and behind it one that may not even be read.
-struct Edge(*mut u8);
-
-impl Edge {
-    fn new() -> Edge {
-        let first = pages(2);
-        // SAFETY: the page is mapped, and nothing is on it.
-        let denied = unsafe { system::mprotect(first.cast(), PAGE, system::PROT_READ_WRITE) };
-        assert_eq!(denied, 0, "no page to write");
-        Edge(first)
-    }
-
-    /// Puts bytes at the end of the first page, so that what is claimed to
-    /// follow them is on the second.
-    fn put(&self, bytes: &[u8]) -> *const u8 {
-        // SAFETY: they are fewer than the page holds.
-        unsafe {
-            let place = self.0.add(PAGE - bytes.len());
-            place.copy_from_nonoverlapping(bytes.as_ptr(), bytes.len());
-            place
-        }
-    }
+    static EDGE: OnceLock<Edge> = OnceLock::new();
+    let filled = || {
+        let mut edge = Edge::new(TRUE);
+        edge.last(TRUE).fill(0x5e);
+        edge
+    };
+    EDGE.get_or_init(filled).end()
 }
 
 /// An input of a length.
 fn input(length: usize) -> *const u8 {
-    if length <= TRUE {
-        return BYTES.as_ptr();
-    }
-    forbidden()
+    let there = if length <= TRUE { length } else { 0 };
+    forbidden().wrapping_sub(there)
 }
 
 /// An output of a length, for which these are the bytes if it is a true one.
@@ -223,6 +179,7 @@ fn expect_left(
 
 /// Whether a call touches the page, in a process of its own.
 fn ends_by_the_page(call: impl FnOnce() -> u64) -> bool {
+    forbidden(); // so that the new process need not wait for who makes it
     let mut status = 0;
     // SAFETY: the new process makes the call, which allocates nothing and
     // takes no lock, and ends.
@@ -501,13 +458,13 @@ fn replay(lent: &mut Lent, journal: *const u8, length: usize) -> u64 {
 /// none, on a file that may be too short, long enough or full.
 #[test]
 fn records() {
-    let edge = Edge::new();
+    let mut edge = Edge::new(TRUE);
     let whole = Edit::Append(b"abc".to_vec()).pack();
     for (n, done) in [(40, &whole[..]), (1 << 33, &[]), (MAX_BYTES - 3, &whole)] {
         for kind in 0..8 {
             for p in [0, 1, MAX_BYTES] {
                 for l in [0, 1, 16, 1 << 31, (1 << 32) - 16, (1 << 32) - 1] {
-                    one_record(&edge, n, done, Head { kind, p, l });
+                    one_record(&mut edge, n, done, Head { kind, p, l });
                 }
             }
         }
@@ -516,7 +473,7 @@ fn records() {
 
 /// A record after those that are done, with one byte less than it needs, with
 /// all, with one more, and with as many as a journal may have.
-fn one_record(edge: &Edge, n: u64, done: &[u8], head: Head) {
+fn one_record(edge: &mut Edge, n: u64, done: &[u8], head: Head) {
     let lent = Lent::of(n);
     let mut state = State::from_state_bytes(&lent.state);
     let replayed = state.replay(done);
@@ -528,7 +485,9 @@ fn one_record(edge: &Edge, n: u64, done: &[u8], head: Head) {
         ..lent.clone()
     };
     let there = [done, &head.pack()].concat();
-    let journal = edge.put(&there);
+    let at_the_page = edge.last(there.len());
+    at_the_page.copy_from_slice(&there);
+    let journal = at_the_page.as_ptr();
     let body = head.body();
     let all = MAX_JOURNAL_BYTES - wide(there.len());
     for remain in [body.saturating_sub(1), body, body + 1, all] {

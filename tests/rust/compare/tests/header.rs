@@ -89,8 +89,8 @@ fn names_and_numbers() {
         expected.insert(name, number);
     }
     for (name, verdict, other) in VERDICTS {
-        assert_eq!(verdict as u64, other as u64, "{verdict}");
-        expected.insert(name, verdict as u64);
+        assert_eq!(verdict.number(), other.number(), "{verdict}");
+        expected.insert(name, verdict.number().into());
     }
     assert_eq!(numbers(), expected);
     assert_eq!(armfile::STATE_BYTES, state::STATE_BYTES);

@@ -1,3 +1,4 @@
-//! Tests of the hash program, and of what the demo must print. The path of the
-//! hash program comes from the environment variable HASH_PROGRAM; a relative
-//! path is taken from this crate's directory. The tests are in `tests/`.
+//! Tests of the hash program, and of what the demo must print. The paths of the
+//! two programs come from the environment variables HASH_PROGRAM and
+//! DEMO_PROGRAM; a relative path is taken from this crate's directory. The tests
+//! are in `tests/`.

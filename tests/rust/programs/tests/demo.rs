@@ -2,6 +2,9 @@
 //! holds the bytes themselves. The program is run, and its output held to
 //! crates/demo/stdout, by the toolchain's own check.
 
+use std::fs::File;
+use std::process::{Command, Stdio};
+
 use reference::blank;
 use reference::machine::Machine;
 use reference::Verdict::{self, Ahead, Current, NotGenuine, Stale};
@@ -106,4 +109,17 @@ fn the_demo_prints_what_the_machine_says() {
         check(&mut text, name, &restarted, &slip, verdict);
     }
     assert_eq!(text, include_str!("../../../../crates/demo/stdout"));
+}
+
+/// Where nothing can be written, that is told, once, on standard error.
+#[test]
+fn a_full_output_is_told() {
+    let path = std::env::var_os("DEMO_PROGRAM")
+        .expect("set DEMO_PROGRAM to the path of the built demo program");
+    let full = File::options().write(true).open("/dev/full");
+    let mut command = Command::new(path);
+    command.stdout(full.expect("/dev/full")).stderr(Stdio::piped());
+    let output = command.output().expect("DEMO_PROGRAM is run");
+    let told = String::from_utf8(output.stderr).expect("text");
+    assert_eq!(told, "demo: standard output cannot be written\n");
 }

@@ -260,11 +260,9 @@ fn a_file_of_more_than_2_24_bytes() {
 }
 
 /// More bytes than 32 bits count, all zero but for the first and the last
-/// block, so that the hash is made of two powers of H. The program takes its
-/// time, some seconds: `tests/mutants/run` runs this, and by hand
-/// `cargo test -p programs --test hash -- --ignored`.
+/// block, so that the hash is made of two powers of H. The program takes some
+/// seconds for them.
 #[test]
-#[ignore = "takes seconds"]
 fn a_file_of_more_than_2_32_bytes() {
     const HOLE: u64 = 1 << 32;
     let mut random = Random::for_test(9);

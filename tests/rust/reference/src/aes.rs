@@ -64,8 +64,11 @@ fn add_words(a: [u8; 4], b: [u8; 4]) -> [u8; 4] {
     std::array::from_fn(|i| a[i] ^ b[i])
 }
 
+/// The words of a key's schedule.
+pub type Schedule = [[u8; 4]; 4 * (ROUNDS + 1)];
+
 /// The key schedule, section 5.2: 44 words of four bytes.
-pub fn schedule(key: &[u8; 16]) -> [[u8; 4]; 4 * (ROUNDS + 1)] {
+pub fn schedule(key: &[u8; 16]) -> Schedule {
     let mut words = [[0; 4]; 4 * (ROUNDS + 1)];
     let mut round_constant = 1;
     for i in 0..words.len() {
@@ -121,9 +124,13 @@ fn mix_columns(state: &mut Rows) {
     }
 }
 
-/// The cipher, section 5.1.
+/// The cipher of one block under a key.
 pub fn encrypt(key: &[u8; 16], block: &[u8; 16]) -> [u8; 16] {
-    let words = schedule(key);
+    cipher(&schedule(key), block)
+}
+
+/// The cipher, section 5.1.
+pub fn cipher(words: &Schedule, block: &[u8; 16]) -> [u8; 16] {
     let mut state: Rows = std::array::from_fn(|r| std::array::from_fn(|c| block[r + 4 * c]));
     add_round_key(&mut state, &words[0..4]);
     for round in 1..=ROUNDS {

@@ -16,10 +16,11 @@ pub fn next_counter(block: &Block) -> Block {
 /// GCTR, section 6.5: the text plus the encrypted counters from the first on.
 /// Of the last one no more is used than there is text.
 pub fn counter_mode(key: &[u8; 16], first: &Block, text: &[u8]) -> Vec<u8> {
+    let words = aes::schedule(key);
     let mut counter = *first;
-    let mut out = Vec::new();
+    let mut out = Vec::with_capacity(text.len());
     for part in text.chunks(16) {
-        let pad = aes::encrypt(key, &counter);
+        let pad = aes::cipher(&words, &counter);
         out.extend(part.iter().zip(pad).map(|(a, b)| a ^ b));
         counter = next_counter(&counter);
     }

@@ -3,6 +3,7 @@
 
 use crate::aes;
 use crate::field::{add, multiply, Block, ZERO};
+use crate::tables;
 
 /// H, the hash key: the zero block encrypted.
 pub fn hash_key(key: &[u8; 16]) -> Block {
@@ -26,8 +27,12 @@ fn pad(bytes: &[u8]) -> Block {
 }
 
 /// The sum of block i times H^(m - i), m the number of blocks: taken from
-/// the last block, which weighs H, to the first, which weighs H^m.
+/// the last block, which weighs H, to the first, which weighs H^m. Of many
+/// blocks it is taken by tables.
 pub fn sum(h: &Block, blocks: &[Block]) -> Block {
+    if blocks.len() >= tables::LONG {
+        return tables::hash_blocks(h, blocks);
+    }
     let mut total = ZERO;
     let mut weight = *h;
     for block in blocks.iter().rev() {
@@ -46,8 +51,11 @@ fn bit_length(bytes: &[u8]) -> u64 {
     8 * bytes.len() as u64
 }
 
-/// The standard's Algorithm 2 over whole blocks.
+/// The standard's Algorithm 2 over whole blocks, by tables if they are many.
 fn hash_blocks(h: &Block, blocks: &[Block]) -> Block {
+    if blocks.len() >= tables::LONG {
+        return tables::hash_blocks(h, blocks);
+    }
     let mut y = ZERO;
     for block in blocks {
         y = multiply(&add(&y, block), h);

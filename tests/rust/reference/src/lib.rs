@@ -8,6 +8,7 @@
 //! - `aes`: the cipher.
 //! - `field`: blocks and their arithmetic.
 //! - `ghash`: the running sum, GHASH and GMAC.
+//! - `tables`: hashing of very long inputs.
 //! - `blank`: the running sum of a blank file, and what it counts.
 //! - `gcm`: encryption and decryption of a text, over `aes` and `ghash`.
 //! - `bits`: numbers in bytes, packed most significant bit first.
@@ -33,6 +34,7 @@ pub mod random;
 pub mod refusal;
 pub mod slip;
 pub mod state;
+pub mod tables;
 
 pub use machine::Machine;
 pub use slip::{Slip, Verdict};

@@ -80,6 +80,12 @@ pub enum Verdict {
     Ahead = 3,
 }
 
+impl Verdict {
+    pub fn number(self) -> u8 {
+        self as u8
+    }
+}
+
 /// Arm and number are the 12-byte nonce.
 pub fn nonce(arm: u32, number: u64) -> [u8; 12] {
     let mut bytes = [0; 12];

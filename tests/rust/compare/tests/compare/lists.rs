@@ -175,7 +175,7 @@ impl List {
         let answer = case.call(&Call::Check { slip }, &mut self.lent);
         assert_eq!(answer, expected.err().unwrap_or(0), "the machine's answer");
         if let (true, Ok(verdict)) = (truly, expected) {
-            assert_eq!(self.lent.verdict, verdict as u8, "the machine's verdict");
+            assert_eq!(self.lent.verdict, verdict.number(), "the machine's verdict");
         }
     }
 

@@ -54,7 +54,7 @@ pub fn expect(case: &mut Case, lent: &Lent, slip: &[u8], expected: Result<Verdic
     after.verdict = UNJUDGED;
     let answer = case.call(&call, &mut after);
     match expected {
-        Ok(verdict) => assert_eq!((answer, after.verdict), (0, verdict as u8)),
+        Ok(verdict) => assert_eq!((answer, after.verdict), (0, verdict.number())),
         Err(number) => assert_eq!((answer, after.verdict), (number, UNJUDGED)),
     }
 }

@@ -1,0 +1,171 @@
+//! The calls as the library makes them, by its functions for C. Every buffer is
+//! lent from memory that ends at a page which may not be touched, an empty one
+//! too.
+
+#![allow(unsafe_code)]
+
+use std::cell::RefCell;
+
+use armfile::ffi::c;
+use armfile::StateBytes;
+
+use crate::call::{Call, Lent, Outcome};
+use crate::edge::Edge;
+use crate::guarded::{Guarded, WIDTH};
+
+/// Where the buffers of a call stand.
+#[derive(Clone, Copy)]
+pub enum Stand {
+    /// With their ends at the page, so that no byte behind them can be read.
+    AtThePage,
+    /// Among canaries and moved by this number, so that a buffer is lent at
+    /// every alignment.
+    AmongCanaries(usize),
+}
+
+impl Stand {
+    /// How many canaries are behind the buffer with this index. The first two
+    /// are numbers, which are aligned.
+    fn behind(self, index: usize) -> usize {
+        match self {
+            Stand::AtThePage => 0,
+            Stand::AmongCanaries(_) if index < 2 => WIDTH,
+            Stand::AmongCanaries(lead) => WIDTH + (lead + 5 * index) % 16,
+        }
+    }
+}
+
+/// How many buffers may be written: count, offset, state, output, tag and
+/// verdict, in this order. A call's inputs follow them.
+const WRITTEN: usize = 6;
+
+/// The most inputs of a call.
+const INPUTS: usize = 5;
+
+/// What every buffer has room for at first.
+const ROOM: usize = 1 << 16;
+
+thread_local! {
+    /// The memory that is lent, a piece for each buffer. Every call uses it
+    /// again.
+    static EDGES: RefCell<[Edge; WRITTEN + INPUTS]> =
+        RefCell::new(std::array::from_fn(|_| Edge::new(ROOM)));
+}
+
+impl Call {
+    /// The call by the library's own functions; or what is wrong with canaries
+    /// and inputs afterwards.
+    pub fn by_library(&self, before: &Lent, stand: Stand) -> Result<Outcome, String> {
+        let (_, inputs, _) = self.parts();
+        let [count, offset] = [before.count, before.offset].map(u64::to_ne_bytes);
+        let mut lent: Vec<(&'static str, &[u8])> = vec![
+            ("count", &count),
+            ("offset", &offset),
+            ("state", &before.state),
+            ("out", &before.out),
+            ("tag", &before.tag),
+            ("verdict", std::slice::from_ref(&before.verdict)),
+        ];
+        lent.extend(inputs);
+        EDGES.with_borrow_mut(|edges| {
+            let pairs = edges.iter_mut().zip(&lent).enumerate();
+            let guard = |(index, (edge, &(name, bytes))): (usize, (_, &(_, &[u8])))| {
+                Guarded::new(name, edge, bytes, stand.behind(index))
+            };
+            let mut guarded: Vec<Guarded> = pairs.map(guard).collect();
+            let pointers: Vec<_> = guarded.iter_mut().map(Guarded::lent).collect();
+            // SAFETY: each pointer is of a buffer of its own with that length.
+            let answer = unsafe { self.answered(&pointers) };
+            left(&mut guarded, &lent[WRITTEN..]).map(|after| (answer, after))
+        })
+    }
+
+    /// The library's answer to the call on these buffers, pointer and length of
+    /// each, inputs in the order of `parts`.
+    unsafe fn answered(&self, lent: &[(*mut u8, usize)]) -> u64 {
+        let [count, offset] = [lent[0].0, lent[1].0].map(<*mut u8>::cast::<u64>);
+        let [(state, _), (out, room), (verdict, _)] = [2, 3, 5].map(|i| lent[i]);
+        let at = |i: usize| lent[WRITTEN + i].0.cast_const();
+        let len = |i: usize| lent[WRITTEN + i].1;
+        match self {
+            Call::Encrypt { .. } => c::armfile_encrypt(at(0), len(0), at(1), len(1), out, room),
+            Call::Multiply { .. } => c::armfile_multiply(at(0), len(0), at(1), len(1), out, room),
+            Call::Ghash { .. } => {
+                c::armfile_ghash(at(0), len(0), at(1), len(1), at(2), len(2), out, room)
+            }
+            Call::Gmac { .. } => {
+                c::armfile_gmac(at(0), len(0), at(1), len(1), at(2), len(2), out, room)
+            }
+            Call::GcmEncrypt { .. } | Call::GcmDecrypt { .. } => {
+                gcm_answered([lent[3], lent[4]], &lent[WRITTEN..])
+            }
+            Call::Start {
+                arm, last, n, fill, ..
+            } => c::armfile_start(at(0), len(0), *arm, *last, *n, *fill, state, count),
+            Call::Read { arm, last, .. } => {
+                c::armfile_read(at(0), len(0), *arm, *last, at(1), len(1), state)
+            }
+            Call::Change { p, .. } => {
+                c::armfile_change(state, *p, at(0), len(0), at(1), len(1), count)
+            }
+            Call::Append { .. } => c::armfile_append(state, at(0), len(0), count),
+            Call::Prepend { .. } => c::armfile_prepend(state, at(0), len(0), count),
+            Call::DropFront { .. } => c::armfile_drop_front(state, at(0), len(0), count),
+            Call::CutTail { .. } => c::armfile_cut_tail(state, at(0), len(0), count),
+            Call::Replay { .. } => c::armfile_replay(state, at(0), len(0), count, offset),
+            Call::Seal => c::armfile_seal(state, out, room),
+            Call::Check { .. } => c::armfile_check(state, at(0), len(0), verdict),
+        }
+    }
+}
+
+/// The same for GCM on these outputs and inputs, of which a decryption has one
+/// more: its tag.
+unsafe fn gcm_answered(outputs: [(*mut u8, usize); 2], inputs: &[(*mut u8, usize)]) -> u64 {
+    let [(key, l1), (nonce, l2), (aad, l3), (text, l4)] = [0, 1, 2, 3].map(|i| inputs[i]);
+    let [(out, l5), (tag, l6)] = outputs;
+    match inputs.get(4) {
+        None => c::armfile_gcm_encrypt(key, l1, nonce, l2, aad, l3, text, l4, out, l5, tag, l6),
+        Some(&(tag, l6)) => {
+            c::armfile_gcm_decrypt(key, l1, nonce, l2, aad, l3, text, l4, out, l5, tag, l6)
+        }
+    }
+}
+
+/// What the buffers hold after a call, whose inputs must be as they were.
+fn left(guarded: &mut [Guarded], inputs: &[(&'static str, &[u8])]) -> Result<Lent, String> {
+    let (written, read) = guarded.split_at_mut(WRITTEN);
+    for (input, (_, bytes)) in read.iter_mut().zip(inputs) {
+        input.unaltered(bytes)?;
+    }
+    let number = |guarded: &mut Guarded| {
+        let bytes = guarded.after()?.try_into().expect("8 bytes");
+        Ok::<u64, String>(u64::from_ne_bytes(bytes))
+    };
+    Ok(Lent {
+        count: number(&mut written[0])?,
+        offset: number(&mut written[1])?,
+        state: written[2].after()?.try_into().expect("84 bytes"),
+        out: written[3].after()?.to_vec(),
+        tag: written[4].after()?.to_vec(),
+        verdict: written[5].after()?[0],
+    })
+}
+
+/// The length, the arm and the last used number of a state, which stands at the
+/// page, by the calls that read them; or what is wrong with it afterwards.
+pub fn fields(state: &StateBytes) -> Result<(u64, u32, u64), String> {
+    EDGES.with_borrow_mut(|edges| {
+        let mut guarded = Guarded::new("state", &mut edges[0], state, 0);
+        let (lent, _) = guarded.lent();
+        // SAFETY: the pointer is of 84 bytes.
+        let read = unsafe {
+            (
+                c::armfile_length(lent),
+                c::armfile_arm(lent),
+                c::armfile_last(lent),
+            )
+        };
+        guarded.unaltered(state).map(|()| read)
+    })
+}
