@@ -63,8 +63,9 @@
  * on a slip's bytes outside its tag and on the heads of a journal's records;
  * these are taken for public. Blocks are multiplied by multiplications of
  * integers, which are taken to last the same whatever they multiply, as they do
- * on x86-64. This is observed of the compiled library (tests/ct), but for how
- * long a multiplication lasts, and is not part of what is proved.
+ * on x86-64; nothing is divided. This is observed of the compiled library
+ * (tests/ct), but for how long a multiplication lasts, and is not part of what
+ * is proved.
  *
  * STACK
  *
@@ -169,10 +170,15 @@
  * A file that is never at hand as a whole is taken in from its front: by
  * armfile_start() with n = 0 and any fill byte, and an armfile_append() for
  * each piece, of any length. The state is then the one that armfile_read()
- * makes of the whole. Beside one armfile_read(), a piece costs at most two
- * products for each binary digit of its number of blocks, and one more where it
- * begins inside a block: pieces of some KiB, of whole blocks, cost next to
- * nothing.
+ * makes of the whole. Beside one armfile_read(), a piece takes at most two
+ * products more for each binary digit of its number of blocks, and one more
+ * where it begins inside a block: little, for pieces of some KiB, of whole
+ * blocks. In time pieces cost more, since an append goes block by block and
+ * armfile_read() by sixteen blocks at once: 16 MiB took 2.7 times as long in
+ * pieces of 4 KiB as by one armfile_read(), 3.7 times in pieces of 256 bytes
+ * and 2.6 times in pieces of 1 MiB. A call that joins the sums of parts, each
+ * of them read as a whole, is to come (Q-6): by it a file in parts will take
+ * about as long as one read.
  *
  * TRUE BYTES
  *

@@ -54,8 +54,8 @@ static int edit(uint8_t *state)
 	    || refused("append", armfile_append(state, TEXT(line_2), &count)))
 		return 1;
 	/* Whole blocks alone are prepended: without its line end the head is none, and with it it is. */
-	if (refused("prepend of 15 bytes", armfile_prepend(state, head, 15, &count))
-	    && refused("prepend", armfile_prepend(state, TEXT(head), &count)))
+	if (!refused("prepend of 15 bytes", armfile_prepend(state, head, 15, &count))
+	    || refused("prepend", armfile_prepend(state, TEXT(head), &count)))
 		return 1;
 	printf("%u bytes\n", (unsigned)armfile_length(state));
 	return refused("change", armfile_change(state, sizeof head - 1 + 3, TEXT(old), TEXT(new_), &count))
@@ -104,39 +104,45 @@ static int carry(void)
 	uint8_t carried[sizeof left - 1], text[sizeof left - 1], tag[ARMFILE_BLOCK_BYTES];
 
 	nonce[11] = 1;
-	if (refused("gcm_encrypt", armfile_gcm_encrypt(carrying_key, sizeof carrying_key, nonce, sizeof nonce, TEXT(head), TEXT(left), carried,
-		sizeof carried, tag, sizeof tag))
+	int failed = refused("gcm_encrypt", armfile_gcm_encrypt(carrying_key, sizeof carrying_key, nonce, sizeof nonce, TEXT(head), TEXT(left),
+		carried, sizeof carried, tag, sizeof tag))
 	    || refused("gcm_decrypt", armfile_gcm_decrypt(carrying_key, sizeof carrying_key, nonce, sizeof nonce, TEXT(head), carried,
 		sizeof carried, text, sizeof text, tag, sizeof tag))
-	    || memcmp(text, left, sizeof text))
-		return 1;
+	    || memcmp(text, left, sizeof text);
 	wipe(text, sizeof text);
 	carried[0] ^= 1;
-	return armfile_gcm_decrypt(carrying_key, sizeof carrying_key, nonce, sizeof nonce, TEXT(head), carried, sizeof carried, text,
+	return failed || armfile_gcm_decrypt(carrying_key, sizeof carrying_key, nonce, sizeof nonce, TEXT(head), carried, sizeof carried, text,
 		sizeof text, tag, sizeof tag) != ARMFILE_WRONG_TAG;
 }
 
+/* The file's life. The newest slip must be current by the state that was put away, and by that of one who reads the file whole. The reader is told the
+ * last used number too: by 0 the slip would be ahead. */
+static int life(struct stored *kept, struct stored *back, uint8_t *reader)
+{
+	uint8_t tuesday[ARMFILE_SLIP_BYTES], verdict = ARMFILE_NOT_GENUINE, of_reader = ARMFILE_NOT_GENUINE;
+
+	if (edit(kept->state) || seal(kept, tuesday) || put_away(kept, back))
+		return 1;
+	printf("%u bytes, arm %u, seal %u\n", (unsigned)armfile_length(back->state), (unsigned)armfile_arm(back->state),
+		(unsigned)armfile_last(back->state));
+	return refused("check", armfile_check(back->state, back->slip, sizeof back->slip, &verdict))
+	    || refused("read", armfile_read(key, sizeof key, ARM, armfile_last(back->state), TEXT(left), reader))
+	    || refused("check", armfile_check(reader, back->slip, sizeof back->slip, &of_reader))
+	    || verdict != ARMFILE_CURRENT || of_reader != ARMFILE_CURRENT
+	    || old_card(back->state, tuesday) || carry();
+}
+
+/* Whatever came of it, what is secret is wiped. */
 int main(void)
 {
 	struct stored kept, back;
-	uint8_t tuesday[ARMFILE_SLIP_BYTES], reader[ARMFILE_STATE_BYTES];
-	uint8_t verdict = ARMFILE_NOT_GENUINE, of_reader = ARMFILE_NOT_GENUINE;
+	uint8_t reader[ARMFILE_STATE_BYTES];
+	int failed = life(&kept, &back, reader);
 
-	if (edit(kept.state) || seal(&kept, tuesday) || put_away(&kept, &back))
-		return 1;
-	printf("%u bytes, arm %u, seal %u\n", (unsigned)armfile_length(back.state), (unsigned)armfile_arm(back.state),
-		(unsigned)armfile_last(back.state));
-	/* The slip is current by the state that was put away, and by that of one who reads the file whole. The reader is told the last used
-	 * number too: by 0 the slip would be ahead. */
-	if (refused("check", armfile_check(back.state, back.slip, sizeof back.slip, &verdict))
-	    || refused("read", armfile_read(key, sizeof key, ARM, armfile_last(back.state), TEXT(left), reader))
-	    || refused("check", armfile_check(reader, back.slip, sizeof back.slip, &of_reader))
-	    || old_card(back.state, tuesday) || carry())
-		return 1;
 	wipe(kept.state, sizeof kept.state);
 	wipe(back.state, sizeof back.state);
 	wipe(reader, sizeof reader);
 	wipe_stack();
-	printf("%s\n", verdict == ARMFILE_CURRENT && of_reader == ARMFILE_CURRENT ? "current" : "not current");
-	return 0;
+	printf("%s\n", failed ? "failed" : "current");
+	return failed;
 }

@@ -36,20 +36,21 @@
 #define SLIP ARMFILE_SLIP_BYTES
 #define SLIP_HEAD 20 /* version, length, arm and number; the tag follows */
 #define UNJUDGED 0xee /* what stands where a verdict goes: no verdict, and what a refused check leaves */
-#define MOST 100 /* the longest edit */
-#define WHOLE 1000 /* the longest file, nonce or text, and the most of A, C and associated data */
+/* The longest input: one of each that is hashed or encrypted. It has more than 256 blocks and than sixteen batches of sixteen blocks. */
+#define LONG 5000
+#define LONG_WHOLE (LONG / 16 * 16) /* whole blocks, where an edit takes only these */
 #define HEAD 12 /* a record's: kind, p and l */
 #define RECORDS 6
 
-static const size_t lengths[] = {0, 1, 15, 16, 17, 32, 33, 64, MOST};
+static const size_t lengths[] = {0, 1, 15, 16, 17, 32, 33, 64, 100};
 #define LENGTHS (sizeof lengths / sizeof lengths[0])
 /* What is no edit is hashed block by block below 512 bytes, and from there on by batches of 256, with what is left block by block. */
-static const size_t wholes[] = {0, 1, 15, 16, 17, 32, 33, 64, 100, 255, 256, 257, 511, 512, 513, 527, 528, 767, 768, WHOLE};
+static const size_t wholes[] = {0, 1, 15, 16, 17, 32, 33, 64, 100, 255, 256, 257, 511, 512, 513, 527, 528, 767, 768, 1000};
 #define WHOLES (sizeof wholes / sizeof wholes[0])
-static const size_t nonces[] = {1, 12, 16, 17, 511, 512, 513, 527, 528, 767, 768, WHOLE};
+static const size_t nonces[] = {1, 12, 16, 17, 511, 512, 513, 527, 528, 767, 768, 1000};
 #define NONCES (sizeof nonces / sizeof nonces[0])
 /* Up to 32 bytes, of a text or behind whole batches, are made block by block, and more by sixteen blocks at once. */
-static const size_t texts[] = {0, 1, 16, 17, 32, 33, 48, 240, 255, 256, 257, 288, 289, 300, 511, 512, 513, 527, 528, 560, 767, 768, WHOLE};
+static const size_t texts[] = {0, 1, 16, 17, 32, 33, 48, 240, 255, 256, 257, 288, 289, 300, 511, 512, 513, 527, 528, 560, 767, 768, 1000};
 #define TEXTS (sizeof texts / sizeof texts[0])
 
 static unsigned calls, comparisons, jumps;
@@ -65,7 +66,7 @@ static void reveal(void *bytes, size_t n) { (void)VALGRIND_MAKE_MEM_DEFINED(byte
 
 /* Whether every bit of the bytes is defined (which 0) or undefined (which 0xff). */
 static int all_bits(const void *bytes, size_t n, unsigned char which) {
-    unsigned char bits[WHOLE];
+    unsigned char bits[LONG];
     if (n > sizeof bits || VALGRIND_GET_VBITS(bytes, bits, n) != 1)
         fail("memcheck does not say which bits are defined");
     for (size_t i = 0; i < n; i++)
@@ -143,23 +144,27 @@ static void on_blocks(block_call *call) {
     }
 }
 
+static void one_ghash(size_t a_len, size_t c_len) {
+    uint8_t h[16], a[LONG], c[LONG], plain[16], out[16];
+    fill(h, 16);
+    fill(a, a_len);
+    fill(c, c_len);
+    answered(armfile_ghash(h, 16, a, a_len, c, c_len, plain, 16), 0);
+    hide(h, 16);
+    hide(a, LONG);
+    hide(c, LONG);
+    answered(armfile_ghash(h, 16, a, a_len, c, c_len, out, 16), 0);
+    if (a_len + c_len > 0)
+        must_be_secret(out, 16, "no secret in a hash");
+    reveal(out, 16);
+    must_be_same(out, plain, 16, "another hash");
+}
+
 static void on_ghash(void) {
     for (size_t i = 0; i < WHOLES; i++)
-        for (size_t j = 0; j < WHOLES; j++) {
-            uint8_t h[16], a[WHOLE], c[WHOLE], plain[16], out[16];
-            fill(h, 16);
-            fill(a, WHOLE);
-            fill(c, WHOLE);
-            answered(armfile_ghash(h, 16, a, wholes[i], c, wholes[j], plain, 16), 0);
-            hide(h, 16);
-            hide(a, WHOLE);
-            hide(c, WHOLE);
-            answered(armfile_ghash(h, 16, a, wholes[i], c, wholes[j], out, 16), 0);
-            if (wholes[i] + wholes[j] > 0)
-                must_be_secret(out, 16, "no secret in a hash");
-            reveal(out, 16);
-            must_be_same(out, plain, 16, "another hash");
-        }
+        for (size_t j = 0; j < WHOLES; j++)
+            one_ghash(wholes[i], wholes[j]);
+    one_ghash(LONG, LONG);
 }
 
 /* An edit by number, with its bytes given twice to a change. */
@@ -185,17 +190,17 @@ static void must_be_moved(uint8_t *state, const uint8_t *plain, uint64_t count, 
 }
 
 static void one_edit(int kind, uint64_t n, uint64_t p, size_t l) {
-    uint8_t state[STATE], plain[STATE], old[MOST], new[MOST];
+    uint8_t state[STATE], plain[STATE], old[LONG], new[LONG];
     uint64_t count = 0, plain_count = 0;
     any_state(state, n);
     memcpy(plain, state, STATE);
-    fill(old, MOST);
-    fill(new, MOST);
+    fill(old, l);
+    fill(new, l);
     uint64_t expected = edit(kind, plain, p, old, new, l, &plain_count);
     calls++;
     hide(state, SECRET_STATE);
-    hide(old, MOST);
-    hide(new, MOST);
+    hide(old, LONG);
+    hide(new, LONG);
     answered(edit(kind, state, p, old, new, l, &count), expected);
     must_be_moved(state, plain, count, plain_count);
 }
@@ -211,11 +216,16 @@ static void on_edits(void) {
             one_edit(0, files[f], 17, lengths[i]);
             one_edit(0, files[f], files[f], lengths[i]);
         }
+    one_edit(0, 2 * LONG, 17, LONG);
+    one_edit(1, 2 * LONG, 0, LONG);
+    one_edit(2, 2 * LONG, 0, LONG_WHOLE);
+    one_edit(3, 2 * LONG, 0, LONG_WHOLE);
+    one_edit(4, 2 * LONG, 0, LONG);
 }
 
 /* A journal, and where its records begin. */
 struct journal {
-    uint8_t bytes[RECORDS * (HEAD + 2 * (MOST + 15))];
+    uint8_t bytes[RECORDS * (HEAD + 2 * LONG)];
     size_t length, records, first[RECORDS + 1];
 };
 
@@ -247,7 +257,7 @@ static void one_replay(uint64_t n, struct journal journal, size_t length) {
     must_be_moved(state, plain, count, plain_count);
 }
 
-/* Records of all kinds, each kind first in some journal; then one that is refused, for its kind, its place or its length, or is cut short. */
+/* Records of all kinds, each kind first in some journal; then one that is refused, for its kind, its place or its length, or is cut short. Last one of long records. */
 static void on_replay(void) {
     const uint64_t files[] = {0, 40, 1000, ARMFILE_MAX_BYTES - 20, ARMFILE_MAX_BYTES + 1};
     const struct {
@@ -266,39 +276,47 @@ static void on_replay(void) {
             add_record(&journal, last[i % 5].kind, last[i % 5].p, 5);
             one_replay(files[f], journal, journal.length - last[i % 5].missing);
         }
+    struct journal journal = {.length = 0};
+    for (uint64_t kind = 1; kind <= 5; kind++)
+        add_record(&journal, kind, kind == 1 ? 17 : 0, kind == 3 || kind == 4 ? LONG_WHOLE : LONG);
+    one_replay(2 * LONG, journal, journal.length);
 }
 
 /* The nonce is public. */
+static void one_gmac(size_t nonce_len, size_t a_len) {
+    uint8_t key[16], nonce[LONG], a[LONG], plain[16], out[16];
+    fill(key, 16);
+    fill(nonce, nonce_len);
+    fill(a, a_len);
+    answered(armfile_gmac(key, 16, nonce, nonce_len, a, a_len, plain, 16), 0);
+    hide(key, 16);
+    hide(a, LONG);
+    answered(armfile_gmac(key, 16, nonce, nonce_len, a, a_len, out, 16), 0);
+    must_be_secret(out, 16, "no secret in a tag");
+    reveal(out, 16);
+    must_be_same(out, plain, 16, "another tag");
+}
+
 static void on_gmac(void) {
     for (size_t i = 0; i < WHOLES; i++)
-        for (size_t j = 0; j < NONCES; j++) {
-            uint8_t key[16], nonce[WHOLE], a[WHOLE], plain[16], out[16];
-            fill(key, 16);
-            fill(nonce, WHOLE);
-            fill(a, WHOLE);
-            answered(armfile_gmac(key, 16, nonce, nonces[j], a, wholes[i], plain, 16), 0);
-            hide(key, 16);
-            hide(a, WHOLE);
-            answered(armfile_gmac(key, 16, nonce, nonces[j], a, wholes[i], out, 16), 0);
-            must_be_secret(out, 16, "no secret in a tag");
-            reveal(out, 16);
-            must_be_same(out, plain, 16, "another tag");
-        }
+        for (size_t j = 0; j < NONCES; j++)
+            one_gmac(nonces[j], wholes[i]);
+    one_gmac(LONG, LONG);
 }
 
 /* What GCM is given, and what it writes; the lengths of nonce, aad and text, which is as long as out. */
 struct message {
-    uint8_t key[16], nonce[WHOLE], aad[WHOLE], text[WHOLE], out[WHOLE], tag[16];
+    uint8_t key[16], nonce[LONG], aad[LONG], text[LONG], out[LONG], tag[16];
     size_t nonce_len, aad_len, text_len;
 };
 
 static struct message any_message(size_t nonce_len, size_t aad_len, size_t text_len) {
     struct message m = {.nonce_len = nonce_len, .aad_len = aad_len, .text_len = text_len};
     fill(m.key, 16);
-    fill(m.nonce, WHOLE);
-    fill(m.aad, WHOLE);
-    fill(m.text, WHOLE);
-    fill(m.out, WHOLE);
+    fill(m.nonce, nonce_len);
+    fill(m.aad, aad_len);
+    fill(m.text, text_len);
+    fill(m.out, LONG);
     fill(m.tag, 16);
     return m;
 }
@@ -306,8 +324,8 @@ static struct message any_message(size_t nonce_len, size_t aad_len, size_t text_
 /* The nonce is public, and so is a tag that is given. */
 static void hide_message(struct message *m) {
     hide(m->key, 16);
-    hide(m->aad, WHOLE);
-    hide(m->text, WHOLE);
+    hide(m->aad, LONG);
+    hide(m->text, LONG);
 }
 
 /* GCM by a message's own lengths, but for the key's, the output's and the tag's. */
@@ -316,7 +334,7 @@ static void hide_message(struct message *m) {
         tag_len)
 
 /* A length that is not the text's, and that its output has. */
-#define ANOTHER(text_len) (((text_len) + 1) % WHOLE)
+#define ANOTHER(text_len) (((text_len) + 1) % LONG)
 
 static void one_encryption(size_t nonce_len, size_t aad_len, size_t text_len) {
     struct message m = any_message(nonce_len, aad_len, text_len), plain = m;
@@ -325,13 +343,13 @@ static void one_encryption(size_t nonce_len, size_t aad_len, size_t text_len) {
     answered(GCM(armfile_gcm_encrypt, &m, 15, text_len, 16), 1);
     answered(GCM(armfile_gcm_encrypt, &m, 16, ANOTHER(text_len), 16), 7);
     answered(GCM(armfile_gcm_encrypt, &m, 16, text_len, 15), 7);
-    must_be_public(m.out, WHOLE, "a refused call has written");
+    must_be_public(m.out, LONG, "a refused call has written");
     must_be_public(m.tag, 16, "a refused call has written");
     answered(GCM(armfile_gcm_encrypt, &m, 16, text_len, 16), 0);
     must_be_secret(m.out, text_len, "no secret in a ciphertext");
     must_be_secret(m.tag, 16, "no secret in a tag");
-    reveal(m.out, WHOLE);
-    must_be_same(m.out, plain.out, WHOLE, "another ciphertext");
+    reveal(m.out, LONG);
+    must_be_same(m.out, plain.out, LONG, "another ciphertext");
     reveal(m.tag, 16);
     must_be_same(m.tag, plain.tag, 16, "another tag");
 }
@@ -343,6 +361,7 @@ static void on_gcm_encrypt(void) {
     for (size_t i = 0; i < TEXTS; i++)
         for (size_t j = 0; j < NONCES; j++)
             one_encryption(nonces[j], aad_for(i, j), texts[i]);
+    one_encryption(LONG, LONG, LONG);
 }
 
 /* What a start or a read leaves: key, H and I are secret, S where there is something to sum, and nothing else; all is as on plain data. */
@@ -384,17 +403,21 @@ static void on_start(void) {
     }
 }
 
+static void one_read(size_t n) {
+    uint8_t key[16], file[LONG], plain[STATE], state[STATE];
+    fill(key, 16);
+    fill(file, n);
+    answered(armfile_read(key, 16, 7, 41, file, n, plain), 0);
+    hide(key, 16);
+    hide(file, LONG);
+    answered(armfile_read(key, 16, 7, 41, file, n, state), 0);
+    must_be_begun(state, plain, n > 0);
+}
+
 static void on_read(void) {
-    for (size_t i = 0; i < WHOLES; i++) {
-        uint8_t key[16], file[WHOLE], plain[STATE], state[STATE];
-        fill(key, 16);
-        fill(file, WHOLE);
-        answered(armfile_read(key, 16, 7, 41, file, wholes[i], plain), 0);
-        hide(key, 16);
-        hide(file, WHOLE);
-        answered(armfile_read(key, 16, 7, 41, file, wholes[i], state), 0);
-        must_be_begun(state, plain, wholes[i] > 0);
-    }
+    for (size_t i = 0; i < WHOLES; i++)
+        one_read(wholes[i]);
+    one_read(LONG);
 }
 
 /* What a state says of itself is public, whatever the rest of it is. */
@@ -508,29 +531,34 @@ static void one_decryption(const struct message *sent, const uint8_t *text, int 
     answered(answer, bit < 0 ? 0 : 14);
     if (bit < 0) {
         must_be_secret(m.out, m.text_len, "no secret in a text");
-        reveal(m.out, WHOLE);
+        reveal(m.out, LONG);
         must_be_same(m.out, text, m.text_len, "another text");
     } else {
-        must_be_public(m.out, WHOLE, "a refused call has written");
-        must_be_same(m.out, sent->out, WHOLE, "a refused call has written");
+        must_be_public(m.out, LONG, "a refused call has written");
+        must_be_same(m.out, sent->out, LONG, "a refused call has written");
     }
+}
+
+/* Decryptions of one message, as it is and with bits of its tag turned, one in so many; and refused ones. */
+static void decryptions(size_t nonce_len, size_t aad_len, size_t text_len, int one_in) {
+    struct message plain = any_message(nonce_len, aad_len, text_len), sent = plain;
+    answered(GCM(armfile_gcm_encrypt, &plain, 16, text_len, 16), 0);
+    memcpy(sent.text, plain.out, text_len);
+    memcpy(sent.tag, plain.tag, 16);
+    for (int bit = -1; bit < 128; bit += one_in)
+        one_decryption(&sent, plain.text, bit);
+    hide_message(&sent);
+    answered(GCM(armfile_gcm_decrypt, &sent, 15, text_len, 16), 1);
+    answered(GCM(armfile_gcm_decrypt, &sent, 16, ANOTHER(text_len), 16), 7);
+    answered(GCM(armfile_gcm_decrypt, &sent, 16, text_len, 15), 7);
 }
 
 /* Every bit of a tag turned for four messages, of no text, of less than a batch, just below 512 bytes and above, and two bits for the others. */
 static void on_gcm_decrypt(void) {
     for (size_t i = 0; i < TEXTS; i++)
-        for (size_t j = 0; j < NONCES; j++) {
-            struct message plain = any_message(nonces[j], aad_for(i, j), texts[i]), sent = plain;
-            answered(GCM(armfile_gcm_encrypt, &plain, 16, texts[i], 16), 0);
-            memcpy(sent.text, plain.out, WHOLE);
-            memcpy(sent.tag, plain.tag, 16);
-            for (int bit = -1; bit < 128; bit += j == 1 && i % 7 == 0 ? 1 : 43)
-                one_decryption(&sent, plain.text, bit);
-            hide_message(&sent);
-            answered(GCM(armfile_gcm_decrypt, &sent, 15, texts[i], 16), 1);
-            answered(GCM(armfile_gcm_decrypt, &sent, 16, ANOTHER(texts[i]), 16), 7);
-            answered(GCM(armfile_gcm_decrypt, &sent, 16, texts[i], 15), 7);
-        }
+        for (size_t j = 0; j < NONCES; j++)
+            decryptions(nonces[j], aad_for(i, j), texts[i], j == 1 && i % 7 == 0 ? 1 : 43);
+    decryptions(LONG, LONG, LONG, 43);
     printf("ct decrypt: %u comparisons of tags, %u jumps, all on whether the tag fits\n", comparisons, jumps);
 }
 
