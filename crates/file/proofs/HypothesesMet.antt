@@ -3,6 +3,7 @@
 -- It rests on what start and read answer (`Calls`), on such lists as the plain machine runs them (`KnownLists`), on demands 2 and 3 and on the theorem
 -- on a list's slips (`SlipAges`).
 use mathlib.Core.Path.{_≡_, refl, sym, ap, subst, _∙_}
+use mathlib.Core.Logic.{_↔_}
 use mathlib.Core.List.{List, [], _∷_, _++_, flatten}
 use mathlib.Core.List.{List·Memᴰ, List·Memᴰ·head, Memᴰ·append-right}
 use Prim.Native.Nat.{ℕ, _+_, _-_, _≤_, _<_, _^_}
@@ -15,11 +16,11 @@ use Rattle.gcm.specs.Gcm.{hashKey}
 use Rattle.file.specs.declared.sealing.Verdict.the-variants.{Current}
 use Rattle.file.specs.declared.states.State.{State}
 use Rattle.file.specs.States.{stateOf, Start, started}
-use Rattle.file.specs.Slips.{slipBytes, sealed, Condition}
+use Rattle.file.specs.Slips.{slipBytes, slipNumber, sealed, Finds, FindsGenuine, Condition}
 use Rattle.file.specs.Calls.{Call, seal}
 use Rattle.file.specs.Machine.{Machine, blank, lent, withLast, NamesHeld, TrueCall}
 use Rattle.file.specs.Runs.{Run, begun, further, run, fromStart, fromRead, Written, writtenIn}
-use Rattle.file.specs.Demands.{AcceptedStart, SlipOf, Sealing, TwoRuns, upFrom, Demand3}
+use Rattle.file.specs.Demands.{AcceptedStart, Opens, SlipOf, Sealing, TwoRuns, upFrom, Demand3}
 use Rattle.file.specs.Met.{appends, appendCounts, Grown, Sealable, Numbered, Met}
 use Rattle.file.proofs.Calls.{begun-read, start-accepts, read-accepts}
 use Rattle.file.proofs.KnownLists.{run-append, append-true, longer, seal-accepts, seal-machine, risen}
@@ -81,17 +82,23 @@ module _ (key : List ℕ) (arm : ℕ) (b : Run) (true-so-far : b .truth) (speaks
       let accepted = seal-accepts (r .machine) out size room (rw (g .last) left) in
       let raised = seal-machine (r .machine) out accepted in
       let both = run-append b (appends parts) (seal out ∷ []) in
+      let e = run b (appends parts ++ (seal out ∷ [])) in
+      let last : e .machine ≡ withLast (r .machine) (r .machine .last + 1) = ap (λ (x : Run). x .machine) both ∙ raised in
+      let bytes : e .machine .bytes ≡ b .machine .bytes ++ flatten parts = ap (λ (m : Machine). m .bytes) last ∙ g .bytes in
       let before = speaks (appends parts) (g .truth true-so-far) in
-      let after : Sealing key arm (further r (seal out)) =
-      subst (Sealing key arm) both (speaks (appends parts ++ (seal out ∷ [])) (subst (λ (x : Run). x .truth) (sym both) (g .truth true-so-far, tt))) in
+      let after = speaks (appends parts ++ (seal out ∷ [])) (subst (λ (x : Run). x .truth) (sym both) (g .truth true-so-far, tt)) in
       let slip = sealed (r .state) out .slip in
+      let slip-of = subst (λ (f : List ℕ). SlipOf key arm f slip) (g .bytes) (before .seals out accepted) in
       record {
-        slip-of = subst (λ (f : List ℕ). SlipOf key arm f slip) (g .bytes) (before .seals out accepted);
-        found = rw both
-            (after .verdicts slip Current .1 (
-              subst (λ (m : Machine). SlipOf key arm (m .bytes) slip) (sym raised) (before .seals out accepted),
-              before .numbers out accepted ∙ ap (λ (m : Machine). m .last) (sym raised),
-            ));
+        slip-of = slip-of;
+        found = after .verdicts slip Current .1 (
+          subst (λ (f : List ℕ). SlipOf key arm f slip) (sym bytes) slip-of,
+          before .numbers out accepted ∙ ap (λ (m : Machine). m .last) (sym last),
+        );
+        checks = λ s. subst (λ (f : List ℕ). FindsGenuine (e .state) s ↔ SlipOf key arm f s) bytes (after .checks s);
+        verdicts = λ s v.
+            subst (λ (f : List ℕ). Finds (e .state) s v ↔ Condition (Opens s) (SlipOf key arm f s) (e .machine .last) (slipNumber s) v) bytes
+            (after .verdicts s v);
       }
 
 -- ---- seals

@@ -1,7 +1,7 @@
 -- The demands' hypotheses can be met, and what the demands then say of lists that are known to the end: lists of appends and of seals, however
 -- long. A hypothesis that were added to a theorem, such as a bound on its list, would break what is said here. The proof is in proofs/HypothesesMet.
 use mathlib.Core.Path.{_≡_}
-use mathlib.Core.Logic.{_≢_}
+use mathlib.Core.Logic.{_↔_, _≢_}
 use mathlib.Core.Bool.{true}
 use mathlib.Core.List.{List, [], _∷_, _++_, map, flatten}
 use Prim.Native.Nat.{ℕ, _+_, _-_, _≤_, _<_, _^_}
@@ -10,13 +10,14 @@ use Rattle.cipher.specs.Aes.{keyFits}
 use Rattle.field.specs.Field.{sum, maxBytes}
 use Rattle.gcm.specs.Gcm.{hashKey}
 use Rattle.file.specs.Edits.{change, append, prepend, dropFront, cutTail, geometryAt, countOf}
+use Rattle.file.specs.declared.sealing.Verdict.{Verdict}
 use Rattle.file.specs.declared.sealing.Verdict.the-variants.{Current, Stale, Ahead}
 use Rattle.file.specs.States.{Start, Reading}
-use Rattle.file.specs.Slips.{slipBytes, slipNumber, sealed, Finds}
+use Rattle.file.specs.Slips.{slipBytes, slipNumber, sealed, Finds, FindsGenuine, Condition}
 use Rattle.file.specs.Calls.{Call, edit, seal, check}
 use Rattle.file.specs.Machine.{Machine, TrueCall}
 use Rattle.file.specs.Runs.{Run, fromStart, fromRead, Written, writtenIn}
-use Rattle.file.specs.Demands.{AcceptedStart, AcceptedRead, SlipOf, upFrom}
+use Rattle.file.specs.Demands.{AcceptedStart, AcceptedRead, Opens, SlipOf, upFrom}
 
 -- ---- lists of appends
 
@@ -43,10 +44,15 @@ pub record Grown (s : Start) (parts : List (List ℕ)) (r : Run) : Type 0 where
   pub total : r .total ≡ appendCounts (s .n) parts
   pub within : r .within
 
--- what demand 2 says of bytes that a list left (document 01, "Slip, seal, check"): a seal then writes a slip of them, which is found current
+-- what demand 2 says of bytes that a list left (document 01, "Slip, seal, check"): a seal then writes a slip of them, which is found current; and of
+-- every byte list, genuine exactly where it is a slip of them, and each verdict exactly on its condition (document 02, Q-5)
 pub record Sealable (key : List ℕ) (arm : ℕ) (bytes out : List ℕ) (before after : Run) : Type 0 where
   pub slip-of : SlipOf key arm bytes (sealed (before .state) out .slip)
   pub found : Finds (after .state) (sealed (before .state) out .slip) Current
+  pub checks : (slip : List ℕ) → FindsGenuine (after .state) slip ↔ SlipOf key arm bytes slip
+  pub verdicts :
+      (slip : List ℕ) (v : Verdict)
+      → Finds (after .state) slip v ↔ Condition (Opens slip) (SlipOf key arm bytes slip) (after .machine .last) (slipNumber slip) v
 
 -- ---- lists of seals
 
