@@ -7,7 +7,7 @@ pub use Rattle.field.specs.Sums.{blocks, sum}
 pub use Rattle.field.specs.Series.{series, seriesSteps, fillBlock, lastBlock, unfilled, blankSum, blankCount, BlankSum}
 pub use Rattle.field.specs.Ghash.{Yᵢ, lengthBlock, ghash}
 pub use Rattle.field.specs.Contracts.{causeNumber, answerRefusal, counted, sought, streamed, absorbed}
-pub use Rattle.field.specs.Streams.{absorbedAll, finished, joined, Whole, none, last, more}
+pub use Rattle.field.specs.Streams.{absorbedAll, finished, Whole, none, last, more}
 pub use Rattle.field.specs.Answers.{maxBytes, multiplyRefusal, multiplyOutput, ghashRefusal, ghashOutput}
 pub use Rattle.field.specs.FieldBench.{FieldBench}
 pub use Rattle.field.specs.Strength.{IsField, DifferentKeys, passing, howMany, AtMostKeys, FileOf, differBy, FewCollide, ownLength, firstBit, BoundsReached}

@@ -1,7 +1,7 @@
 -- GHASH of one byte list that comes in chunks: what a stream gives at the end, and what its laws ask of the chunks. What it holds
 -- after a chunk is in `Contracts`. They stand in no standard; the laws that tie them to GHASH are in proofs/Stream.
 use mathlib.Core.Path.{_≡_}
-use mathlib.Core.List.{List, [], _∷_, _++_}
+use mathlib.Core.List.{List, [], _∷_}
 use Prim.Native.Nat.{ℕ, _*_}
 use lib.ListN.{length}
 use Rattle.field.specs.declared.blocks.Block.{Block}
@@ -18,11 +18,6 @@ absorbedAll t (s ∷ r) = absorbedAll (absorbed t s) r
 -- the block of the bit length added, and times H once more: (S + L) times H (document 01, "Sum, hash, tag")
 unfoldable pub finished : Stream → Block
 finished t = (t .y ⊕ lengthBlock (t .n) 0) • t .h
-
--- the bytes of all the chunks; it serves laws alone
-unfoldable pub joined : List (List ℕ) → List ℕ
-joined [] = []
-joined (s ∷ r) = s ++ joined r
 
 -- every chunk but the last is whole blocks, the last may have any length; it serves laws alone
 pub data Whole : List (List ℕ) → Type 0 where
