@@ -1,5 +1,6 @@
 -- The field's laws, from the bottom up. The layers above use those of Values, Ring, Powers, Bytes, XorBytes, BlockAt,
--- BlockCounts, Horner, Sums, Blank, Hash, Counting, Collisions, Stream, Steps, FieldBench and Stores; the others serve these or this crate's functions.
+-- BlockCounts, Horner, Sums, Blank, Hash, Counting, Collisions, Stream, Steps, FieldBench, Stores, Packed, Parts, Joins and JoinsMet; the others serve these
+-- or this crate's functions.
 pub mod Span
 pub mod Recursion
 pub mod Product
@@ -36,3 +37,8 @@ pub mod Seek
 pub mod Series
 pub mod Blank
 pub mod Refusals
+pub mod Parts
+pub mod PartLengths
+pub mod JoinAnswers
+pub mod Joins
+pub mod JoinsMet

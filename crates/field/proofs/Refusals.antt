@@ -14,7 +14,7 @@ use Rattle.refusals.proofs.Laws.{first-passed, agreed}
 use Rattle.field.specs.declared.blocks.Block.{Block}
 use Rattle.field.specs.declared.multiplying.Counted.{Counted}
 use Rattle.field.specs.declared.Cause.{Cause}
-use Rattle.field.specs.declared.Cause.the-variants.{InputLength, TooLong, OutputLength}
+use Rattle.field.specs.declared.Cause.the-variants.{InputLength, TooLong, PartLength, OutputLength, SumsLength}
 use Rattle.field.specs.declared.Answer.{Answer}
 use Rattle.field.specs.declared.Answer.the-variants.{Done, Refused}
 use Rattle.field.specs.Blocks.{_•_, blockAt, bytesOf}
@@ -24,10 +24,12 @@ use Rattle.field.specs.Answers.{maxBytes, multiplyRefusal, multiplyOutpu
 use Rattle.field.proofs.Packed.{bytesOf-whole}
 
 -- no cause has the number 0
-cause-not-0 : (cause : Cause) → eqb (causeNumber cause) 0 ≡ false
+pub cause-not-0 : (cause : Cause) → eqb (causeNumber cause) 0 ≡ false
 cause-not-0 InputLength = refl
 cause-not-0 TooLong = refl
+cause-not-0 PartLength = refl
 cause-not-0 OutputLength = refl
+cause-not-0 SumsLength = refl
 
 -- a call whose refusal is n leaves what stood in its output where it is refused
 kept : {r : Answer} {cause : Cause} (n : ℕ) (work out : List ℕ) → answerRefusal r ≡ n → r ≡ Refused cause → out ≡ cond (eqb n 0) work out

@@ -6,9 +6,12 @@ pub mod Powers
 pub mod Sums
 pub mod Series
 pub mod Ghash
+pub mod Answers
+pub mod Parts
 pub mod Contracts
 pub mod Streams
-pub mod Answers
+pub mod Joins
+pub mod JoinsMet
 pub mod FieldBench
 pub mod Strength
 pub mod Field

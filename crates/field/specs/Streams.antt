@@ -19,7 +19,7 @@ absorbedAll t (s ∷ r) = absorbedAll (absorbed t s) r
 unfoldable pub finished : Stream → Block
 finished t = (t .y ⊕ lengthBlock (t .n) 0) • t .h
 
--- every chunk but the last is whole blocks, the last may have any length; it serves laws alone
+-- of chunks, and of parts (document 02, Q-6): every one but the last is whole blocks, the last may have any length; it serves laws alone
 pub data Whole : List (List ℕ) → Type 0 where
   none : Whole []
   last : (t : List ℕ) → Whole (t ∷ [])

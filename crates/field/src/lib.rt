@@ -1,9 +1,10 @@
-// GF(2^128) as SP 800-38D has it: blocks, products, powers, sums of bytes and GHASH. This layer
+// GF(2^128) as SP 800-38D has it: blocks, products, powers, sums of bytes, GHASH, and the join of sums. This layer
 // knows nothing of the cipher or of files.
 mod batches;
 pub mod blocks;
 pub mod filling;
 pub mod hashing;
+pub mod joining;
 pub mod multiplying;
 pub mod packing;
 pub mod seeking;
@@ -13,6 +14,8 @@ pub mod summing;
 pub use blocks::Block;
 use hashing::MAX_BYTES;
 use hashing::hash;
+pub use joining::Joined;
+pub use joining::join;
 use multiplying::Count;
 use multiplying::counted_product;
 ghost use mathlib.Core.Path.{_≡_};
@@ -23,10 +26,14 @@ ghost use Rattle.field.specs.Contracts.{answerRefusal};
 pub enum Cause {
     // A block or the hash key is not sixteen bytes.
     InputLength,
-    // An input of GHASH passes 2^61 - 1 bytes.
+    // An input of GHASH, or what parts come to, passes 2^61 - 1 bytes.
     TooLong,
+    // A part that isn't the last is no whole number of blocks.
+    PartLength,
     // The output is not sixteen bytes.
     OutputLength,
+    // The list of sums is not sixteen bytes for each length.
+    SumsLength,
 }
 
 pub enum Answer {

@@ -7,6 +7,7 @@ use native.Mathlib.Nat.{zero-add}
 use native.Mathlib.Omega.{arith}
 use lib.ListN.{length, replicate, length-append, length-replicate}
 use Rattle.field.specs.Field.{zeroBlock, sum, maxBytes}
+use Rattle.field.proofs.Parts.{flatten-append}
 use Rattle.gcm.specs.Gcm.{hashKey}
 use Rattle.file.specs.declared.states.State.{State}
 use Rattle.file.specs.Edits.{append}
@@ -40,11 +41,6 @@ stop-none n parts h l =
     let st = put zeroState zeroBlock n in
     let m : Machine = record { bytes = []; last = 0 } in
     ap (λ (x : ℕ × ℕ). x .0) (sym (replay-theorem .stops st (appendJournal parts))) ∙ replayed-whole (begun st m) parts h l .refusal
-
-flatten-append : (a b : List (List ℕ)) → flatten (a ++ b) ≡ flatten a ++ flatten b
-unfolding flatten
-flatten-append [] b = refl
-flatten-append (x ∷ a) b = ap (λ (y : List ℕ). x ++ y) (flatten-append a b) ∙ sym (append-assoc x (flatten a) (flatten b))
 
 abbrev journals : List (List (List ℕ)) → List Task
 journals groups = map (λ (parts : List (List ℕ)). replay (appendJournal parts)) groups
