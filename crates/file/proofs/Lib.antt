@@ -21,5 +21,6 @@ pub mod SlipAges
 pub mod Demand3
 pub mod KnownLists
 pub mod HypothesesMet
+pub mod Parts
 pub mod Strength
 pub mod BenchCases

@@ -9,5 +9,6 @@ pub mod Runs
 pub mod Demands
 pub mod Strength
 pub mod Met
+pub mod Parts
 pub mod BenchCases
 pub mod Contracts
