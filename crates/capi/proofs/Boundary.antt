@@ -31,6 +31,7 @@ use Rattle.capi.specs.LentRuns.{Held, Boundary, BoundaryTheorem}
 use Rattle.capi.proofs.StateBytes.{HasRoom, state-back, bytes-back}
 use Rattle.capi.proofs.Leaves.{has-room, kept-accepted, kept-same, stamped-state, start-leaves, read-leaves}
 use Rattle.capi.proofs.Leaves.{edit-leaves, seal-leaves, check-leaves, replay-leaves}
+use Rattle.capi.proofs.Joins.{join-leaves, parts-joined}
 
 -- ---- one call or journal on the bytes of a state
 
@@ -147,4 +148,6 @@ boundary-theorem =
           (holds-read r (a .accepted) (a .last))
           (ap (λ (x : EditCall). x .state) (kept-accepted (readFile r) lent 0 (a .accepted))) refl refl;
       whole = whole-kept;
+      joins = join-leaves;
+      parts = parts-joined;
     }

@@ -1,27 +1,32 @@
 -- What the boundary's theorem says of appends, of a seal behind them and of lists in which journals stand.
 -- It rests on that theorem (`Boundary`), and on what the demands say of the same lists: the file keeper's `met` and `journal-demands`.
 use mathlib.Core.Path.{_≡_, refl, sym, ap, ap₂, subst, _∙_}
-use mathlib.Core.Bool.{false, not}
+use mathlib.Core.Bool.{true, false, not}
 use mathlib.Core.Logic.{_≢_}
-use mathlib.Core.List.{List, [], _∷_, _++_, flatten}
+use mathlib.Core.List.{List, [], _∷_, _++_, map, flatten}
 use Prim.Native.Nat.{ℕ, _+_, _≤_, _<_, _^_}
 use native.Mathlib.Omega.{arith}
 use lib.ListN.{length, replicate, length-append, length-replicate}
 use borrow.Author.Tests.{lt-ltb, le-ltb, ltb-false}
 use Rattle.refusals.proofs.Laws.{first-here, first-later, first-passed}
 use Rattle.cipher.specs.Aes.{keyFits}
-use Rattle.field.specs.Field.{maxBytes}
+use Rattle.field.specs.Field.{bytesOf, sum, maxBytes, Whole}
+use Rattle.field.proofs.JoinsMet.{joins-met}
+use Rattle.gcm.specs.Gcm.{hashKey}
 use Rattle.file.specs.declared.states.State.{State}
 use Rattle.file.specs.declared.geometry.Kind.the-variants.{Append}
 use Rattle.file.specs.Edits.{append, kindOf, placeOf, given, replacing, kindCauses, kindRefusal, geometryAt, editRefusal}
-use Rattle.file.specs.States.{Start, beginRefusal, started, readFile, edited}
+use Rattle.file.specs.States.{Start, Reading, beginRefusal, started, readFile, edited}
 use Rattle.file.specs.Slips.{slipBytes, slipNumber, sealed}
 use Rattle.file.specs.Calls.{Call, seal}
 use Rattle.file.specs.Machine.{blank, lent as lentFile, machineRefusal}
 use Rattle.file.specs.Runs.{Run, begun, run, fromStart, fromRead}
 use Rattle.file.specs.Demands.{AcceptedStart, SlipOf}
 use Rattle.file.specs.Met.{appends, Sealable}
+use Rattle.file.specs.Parts.{AllAgree, readState}
 use Rattle.file.proofs.ShapeLaws.{geometry-refusal}
+use Rattle.file.proofs.Calls.{read-accepts}
+use Rattle.file.proofs.Invariant.{holds-read}
 use Rattle.file.proofs.EditAnswers.{edited-refusal}
 use Rattle.file.proofs.Agreement.{Agrees, agrees-start, agrees-read}
 use Rattle.file.proofs.Demand1.{demand-1}
@@ -29,13 +34,15 @@ use Rattle.file.proofs.Demand2.{sealing}
 use Rattle.file.proofs.SlipAges.{seal-refusal}
 use Rattle.file.proofs.KnownLists.{longer, seal-accepts}
 use Rattle.file.proofs.HypothesesMet.{met}
+use Rattle.file.proofs.Parts.{states-join-met}
 use Rattle.journal.specs.Journals.{maxJournal, replayRefusal}
 use Rattle.journal.specs.Met.{appendJournal}
 use Rattle.journal.proofs.KnownJournals.{replay-met}
 use Rattle.journal.proofs.Lists.{journal-demands}
 use Rattle.capi.specs.Bytes.{stateFrom}
 use Rattle.capi.specs.Calls.{startCall, readCall, sealCall, checkCall}
-use Rattle.capi.specs.LentRuns.{lentCall, LentRun, lentBegun, lentWith, lentFurther, lentRun, Boundary}
+use Rattle.capi.specs.Contracts.{joinResult}
+use Rattle.capi.specs.LentRuns.{lentCall, LentRun, lentBegun, lentWith, lentFurther, lentRun, Boundary, statesJoined}
 use Rattle.capi.specs.Met.{GrownInBytes, SealedInBytes, BoundaryMet}
 use Rattle.capi.proofs.Boundary.{boundary-theorem}
 
@@ -121,6 +128,33 @@ module _ (key : List ℕ) (arm : ℕ) (small : arm < 2 ^ 32) (b : Run) (true-so-
         found = λ verdict. ap₂ (λ (x y : List ℕ). checkCall x y verdict) (sym bytes) (next .slip) ∙ after verdict .current .1 (known .found);
       }
 
+-- ---- files that are each read, joined
+
+module _ (key : List ℕ) (arm last : ℕ) (k : keyFits key ≡ true) (a : arm < 2 ^ 32) (l : last < 2 ^ 64) (state : List ℕ) where
+  abbrev reading : List ℕ → Reading
+  reading file = record { key = key; arm = arm; last = last; file = file }
+
+  abbrev reads : List ℕ → List ℕ
+  reads file = readCall (reading file) state .state
+
+  -- the lent bytes hold the state that a read makes
+  read-back : (file : List ℕ) → length file ≤ maxBytes → stateFrom (reads file) ≡ readState key arm last file
+  read-back file short = boundary-theorem .reads (reading file) state .state (met .read (reading file) k short a l)
+
+  all-back : (files : List (List ℕ)) → length (flatten files) ≤ maxBytes → map stateFrom (map reads files) ≡ map (readState key arm last) files
+  unfolding flatten
+  all-back [] short = refl
+  all-back (file ∷ files) short =
+      let both = length-append file (flatten files) in
+      ap₂ (λ (x : State) (xs : List State). x ∷ xs) (read-back file (omega (arith, short, both))) (all-back files (omega (arith, short, both)))
+
+  reads-join : (files : List (List ℕ)) → Whole files → length (flatten files) ≤ maxBytes → (lent : List ℕ) (n : ℕ)
+      → statesJoined (reads []) (map reads files) lent n ≡ joinResult 0 (bytesOf (sum (hashKey key) (flatten files))) (length (flatten files))
+  reads-join files w short lent n =
+      boundary-theorem .parts key (map reads files) files
+      (subst (λ (states : List State). AllAgree key states files) (sym (all-back files short)) (states-join-met .read key arm last files k short))
+      w short (reads []) (ap (λ (st : State). st .h) (read-back [] (omega arith)) ∙ holds-read (reading []) (read-accepts (reading []) k (omega arith)) l .same-h) lent n
+
 pub boundary-met : BoundaryMet
 unfolding fromStart fromRead begun blank lentFile
 boundary-met =
@@ -159,4 +193,9 @@ boundary-met =
             total = b .held .total ∙ sym (same .total);
             refusals = b .refusals ∙ sym (same .refusals);
           };
+      reads-join = λ key arm last files k a l w short state lent n. reads-join key arm last k a l state files w short lent n;
+      join-refused = λ h s₂ s₃ l₂ l₃ n ok some z e lent m.
+          let x = boundary-theorem .joins h (s₂ ++ s₃) (l₂ ++ (n ∷ l₃)) lent m in
+          let five = joins-met .broken h s₂ s₃ l₂ l₃ n ok some z e in
+          x .kept (λ y. omega (arith, five, y)) ∙ ap (λ (k : ℕ). joinResult k lent m) five;
     }

@@ -1,11 +1,19 @@
 -- The calls on a lent state: each is the file keeper's own, between the bytes that are read and those that are written. One law takes each
 -- group of calls to its definition, and one serves each return of the code that writes an answer.
 use mathlib.Core.Path.{_≡_, sym, ap, ap₂, _∙_}
+use mathlib.Core.Logic.{_≢_}
 use mathlib.Core.List.{List}
 use Prim.Native.Nat.{ℕ}
 use native.Mathlib.Omega.{arith}
+use lib.ListN.{length}
+use lib.Seq.{sets}
 use borrow.Author.Tests.{eq-eqb, ne-eqb}
+use Rattle.field.specs.declared.blocks.Block.{Block}
 use Rattle.field.specs.declared.multiplying.Count.{Count}
+use Rattle.field.specs.declared.joining.Joined.{Joined}
+use Rattle.field.specs.Field as field
+use Rattle.field.specs.Field.{bytesOf, joinAnswer, JoinAnswer, joined}
+use Rattle.field.proofs.Packed.{bytesOf-whole}
 use Rattle.file.specs.declared.causes.Cause.{Cause}
 use Rattle.file.specs.declared.causes.Answer.the-variants as answer
 use Rattle.file.specs.declared.states.State.{State}
@@ -26,8 +34,8 @@ use Rattle.journal.specs.Contracts.{replayAnswer}
 use Rattle.journal.specs.Journals.{replayed}
 use Rattle.capi.specs.Bytes.{packedState, stateFrom}
 use Rattle.capi.specs.Calls.{EditCall, kept, editCall, startCall, readCall, SealCall, stamped, sealCall}
-use Rattle.capi.specs.Calls.{CheckCall, verdictByte, judged, checkCall, written, replayCall}
-use Rattle.capi.specs.Contracts.{editResult, readResult, sealResult, checkResult, replayResult}
+use Rattle.capi.specs.Calls.{CheckCall, verdictByte, judged, checkCall, written, replayCall, handed, joinCall}
+use Rattle.capi.specs.Contracts.{editResult, readResult, sealResult, checkResult, replayResult, joinResult}
 
 -- a number that is a cause's is not 0
 refusal : (n : ℕ) (c : Cause) → n ≡ causeNumber c → n ≡ 0 → ⊥
@@ -125,3 +133,35 @@ unfolding replayCall written
 replay-call state j es r er eb en =
     ap₂ (λ (m : ℕ) (t : List ℕ). replayResult m t (r .count) (r .offset)) en eb
     ∙ ap written (er ∙ ap (λ (t : State). replayed t j) es)
+
+-- ---- blocks and joins
+
+-- a block written over sixteen bytes
+pub block-written : (b : Block) (out : List ℕ) {a : Block} {t : List ℕ} → length out ≡ 16 → a ≡ b → t ≡ sets out 0 (bytesOf a) → t ≡ bytesOf b
+block-written b out l e f = f ∙ ap (λ (x : Block). sets out 0 (bytesOf x)) e ∙ bytesOf-whole b out l
+
+-- a join, handed over where it is accepted
+module _ (a : JoinAnswer) (lent : List ℕ) (n : ℕ) where
+  pub handed-accepted : a .refusal ≡ 0 → handed a lent n ≡ joinResult 0 (bytesOf (a .s)) (a .n)
+  unfolding handed
+  handed-accepted z = simp (eq-eqb _ _ z)
+
+  pub handed-otherwise : a .refusal ≢ 0 → handed a lent n ≡ joinResult (a .refusal) lent n
+  unfolding handed
+  handed-otherwise z = simp (ne-eqb _ _ z)
+
+-- what code's join answered: m is its number
+module _ (h sums lengths sum : List ℕ) (n : ℕ) (j : Joined) (e : joinAnswer j ≡ joined h sums lengths) {m : ℕ} (f : m ≡ field.answerRefusal (j .answer)) where
+  pub join-refused : (m ≡ 0 → ⊥) → joinResult m sum n ≡ joinCall h sums lengths sum n
+  unfolding joinCall
+  join-refused z =
+      ap (λ (k : ℕ). joinResult k sum n) f
+      ∙ sym (handed-otherwise (joinAnswer j) sum n (λ x. z (f ∙ x)))
+      ∙ ap (λ (a : JoinAnswer). handed a sum n) e
+
+  pub join-done : {b : List ℕ} → m ≡ 0 → b ≡ bytesOf (j .sum) → joinResult 0 b (j .length) ≡ joinCall h sums lengths sum n
+  unfolding joinCall
+  join-done z eb =
+      ap (λ (t : List ℕ). joinResult 0 t (j .length)) eb
+      ∙ sym (handed-accepted (joinAnswer j) sum n (sym f ∙ z))
+      ∙ ap (λ (a : JoinAnswer). handed a sum n) e

@@ -2,5 +2,6 @@
 pub mod StateBytes
 pub mod CallLaws
 pub mod Leaves
+pub mod Joins
 pub mod Boundary
 pub mod BoundaryMet

@@ -1,9 +1,10 @@
 -- The calls on a lent state, for all inputs: the refusal, and what state, count, slip and verdict hold afterwards. Each is the file
--- keeper's own definition between `stateFrom` and `packedState`; a refusal leaves what stood there.
+-- keeper's own definition between `stateFrom` and `packedState`; a refusal leaves what stood there. And the join, which has no state.
 use mathlib.Core.Bool.{cond}
 use mathlib.Core.List.{List}
 use Prim.Native.Nat.{ℕ}
 use lib.Dec.{eqb}
+use Rattle.field.specs.Field.{bytesOf, JoinAnswer, joined}
 use Rattle.file.specs.Edits.{Edit}
 use Rattle.file.specs.States.{StateAnswer, Start, Reading, started, readFile, edited}
 use Rattle.file.specs.declared.sealing.Verdict.{Verdict}
@@ -103,3 +104,20 @@ written a = record { refusal = a .refusal; state = packedState (a .state); count
 -- replay: the journal's `replayed` between `stateFrom` and `packedState` (document 02, Q-1)
 unfoldable pub replayCall : (state journal : List ℕ) → ReplayCall
 replayCall state journal = written (replayed (stateFrom state) journal)
+
+-- ---- join
+
+-- what join leaves: the refusal (document 02, Q-6) or 0, the lent sum and the lent length
+pub record JoinCall : Type 0 where
+  pub refusal : ℕ
+  pub sum : List ℕ
+  pub n : ℕ
+
+-- what a join leaves (document 02, Q-6): where it is accepted, its sum's bytes and its length; where it is refused, what stood there
+unfoldable pub handed : JoinAnswer → (sum : List ℕ) (n : ℕ) → JoinCall
+handed a sum n =
+    cond (eqb (a .refusal) 0) (record { refusal = 0; sum = bytesOf (a .s); n = a .n }) (record { refusal = a .refusal; sum = sum; n = n })
+
+-- join: the field's `joined` (document 02, Q-6)
+unfoldable pub joinCall : (h sums lengths sum : List ℕ) (n : ℕ) → JoinCall
+joinCall h sums lengths sum n = handed (joined h sums lengths) sum n

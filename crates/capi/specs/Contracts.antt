@@ -1,7 +1,7 @@
 -- What serves contracts and laws alone: what a call leaves as one record, so that a contract is one equation.
 use mathlib.Core.List.{List}
 use Prim.Native.Nat.{ℕ}
-use Rattle.capi.specs.Calls.{EditCall, ReadCall, SealCall, CheckCall, ReplayCall}
+use Rattle.capi.specs.Calls.{EditCall, ReadCall, SealCall, CheckCall, ReplayCall, JoinCall}
 
 -- of an edit and of start
 abbrev pub editResult : (refusal : ℕ) (state : List ℕ) (count : ℕ) → EditCall
@@ -22,3 +22,7 @@ checkResult refusal verdict = record { refusal = refusal; verdict = verdict }
 -- of replay
 abbrev pub replayResult : (refusal : ℕ) (state : List ℕ) (count offset : ℕ) → ReplayCall
 replayResult refusal state count offset = record { refusal = refusal; state = state; count = count; offset = offset }
+
+-- of join
+abbrev pub joinResult : (refusal : ℕ) (sum : List ℕ) (n : ℕ) → JoinCall
+joinResult refusal sum n = record { refusal = refusal; sum = sum; n = n }

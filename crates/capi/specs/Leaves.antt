@@ -1,10 +1,11 @@
 -- What each call on a state leaves in lent bytes, field by field, beside what the editor answers to it: `lent` are the bytes and `st` is the
--- editor's state. Numbers are the editor's, the bytes hold the editor's state afterwards (`stateFrom`), and a refusal leaves what was lent.
+-- editor's state. Numbers are the editor's, the bytes hold the editor's state afterwards (`stateFrom`), and a refusal leaves what was lent. And what a
+-- join leaves beside what the field answers to it.
 use mathlib.Core.Path.{_≡_}
 use mathlib.Core.Logic.{_↔_, _≢_}
 use mathlib.Core.List.{List}
 use Prim.Native.Nat.{ℕ}
-use Rattle.field.specs.Field.{blankCount}
+use Rattle.field.specs.Field.{blankCount, bytesOf, joined}
 use Rattle.file.specs.declared.states.State.{State}
 use Rattle.file.specs.declared.sealing.Verdict.the-variants.{NotGenuine, Current, Stale, Ahead}
 use Rattle.file.specs.Edits.{Edit}
@@ -13,7 +14,7 @@ use Rattle.file.specs.Slips.{sealed, checkRefusal, Finds}
 use Rattle.file.specs.Demands.{AcceptedStart, AcceptedRead}
 use Rattle.journal.specs.Journals.{replayed}
 use Rattle.capi.specs.Bytes.{stateFrom}
-use Rattle.capi.specs.Calls.{editCall, startCall, readCall, sealCall, checkCall, replayCall}
+use Rattle.capi.specs.Calls.{editCall, startCall, readCall, sealCall, checkCall, replayCall, joinCall}
 
 -- start (document 02, Q-4): its count is that of a blank file's sum
 pub record StartLeaves (s : Start) (lent : List ℕ) (count : ℕ) : Type 0 where
@@ -57,3 +58,12 @@ pub record ReplayLeaves (lent : List ℕ) (st : State) (j : List ℕ) : Type 0 w
   pub state : stateFrom (replayCall lent j .state) ≡ replayed st j .state
   pub count : replayCall lent j .count ≡ replayed st j .count
   pub offset : replayCall lent j .offset ≡ replayed st j .offset
+
+-- a join (document 02, Q-6), which has no state: what the field answers, or what was lent
+pub record JoinLeaves (h sums lengths lent : List ℕ) (n : ℕ) : Type 0 where
+  pub accepted :
+      let j = joined h sums lengths in
+      j .refusal ≡ 0 → joinCall h sums lengths lent n ≡ record { refusal = 0; sum = bytesOf (j .s); n = j .n }
+  pub kept :
+      let j = joined h sums lengths in
+      j .refusal ≢ 0 → joinCall h sums lengths lent n ≡ record { refusal = j .refusal; sum = lent; n = n }

@@ -2,20 +2,23 @@
 -- of the same calls; and the same of a list in which journals stand. The proof is `boundary-theorem` in proofs/Boundary.
 use mathlib.Core.Path.{_≡_}
 use mathlib.Core.Logic.{_≢_}
-use mathlib.Core.List.{List, [], _∷_, _++_}
-use Prim.Native.Nat.{ℕ, _+_, _<_}
+use mathlib.Core.List.{List, [], _∷_, _++_, map, flatten}
+use Prim.Native.Nat.{ℕ, _+_, _≤_, _<_}
 use lib.ListN.{length, getD}
+use Rattle.field.specs.Field.{bytesOf, sum, maxBytes, Whole}
+use Rattle.gcm.specs.Gcm.{hashKey}
 use Rattle.file.specs.Edits.{Edit}
 use Rattle.file.specs.States.{Start, Reading, started, readFile}
 use Rattle.file.specs.Calls.{Call, edit, seal, check}
 use Rattle.file.specs.Machine.{blank, lent as lentFile}
 use Rattle.file.specs.Runs.{Run, begun, fromStart, fromRead}
 use Rattle.file.specs.Demands.{AcceptedStart, AcceptedRead}
+use Rattle.file.specs.Parts.{AllAgree}
 use Rattle.journal.specs.Journals.{replayRefusal}
 use Rattle.journal.specs.Singly.{Task, call, replay, asCalls, taskRefusals}
 use Rattle.capi.specs.Bytes.{stateBytes, stateFrom}
-use Rattle.capi.specs.Calls.{EditCall, editCall, startCall, readCall, sealCall, checkCall, replayCall}
-use Rattle.capi.specs.Leaves.{StartLeaves, ReadLeaves, EditLeaves, SealLeaves, CheckLeaves, ReplayLeaves}
+use Rattle.capi.specs.Calls.{EditCall, editCall, startCall, readCall, sealCall, checkCall, replayCall, JoinCall, joinCall}
+use Rattle.capi.specs.Leaves.{StartLeaves, ReadLeaves, EditLeaves, SealLeaves, CheckLeaves, ReplayLeaves, JoinLeaves}
 
 -- one call: its refusal, the lent state afterwards, which a check can't write, and the count it reports, 0 where it reports none; it serves
 -- laws alone
@@ -74,10 +77,17 @@ pub record Boundary (l : LentRun) (r : Run) (answered : List ℕ) : Type 0 where
   pub held : Held l r
   pub refusals : l .refusals ≡ answered
 
+-- a join of lent states: the hash key of one of them, and the sums and the lengths of all, taken out as the boundary's calls do (document 02, Q-6)
+abbrev pub statesJoined : (one : List ℕ) (states : List (List ℕ)) (lent : List ℕ) (n : ℕ) → JoinCall
+statesJoined one states lent n =
+    joinCall (bytesOf (stateFrom one .h)) (flatten (map (λ (b : List ℕ). bytesOf (stateFrom b .s)) states)) (map (λ (b : List ℕ). stateFrom b .n) states)
+    lent n
+
 -- a start and a read leave what the file keeper's do, whatever was lent. After any list of calls from an accepted start and from an accepted
 -- read the lent bytes hold the editor's state, and the numbers are the editor's; after any list in which journals stand as well, the state is
 -- that of the run in which they stand as their edits, and the numbers are the plain machine's, task by task. A journal that is refused as a whole
--- leaves the lent state as it was. The boundary's own
+-- leaves the lent state as it was. A join leaves what the field's answers; of lent states that agree with reads of their parts it is the sum and the
+-- length of the joined bytes. The boundary's own
 pub record BoundaryTheorem : Type 0 where
   pub starts : (s : Start) (lent : List ℕ) (count : ℕ) → StartLeaves s lent count
   pub reads : (r : Reading) (lent : List ℕ) → ReadLeaves r lent
@@ -98,3 +108,8 @@ pub record BoundaryTheorem : Type 0 where
   pub whole :
       (state j : List ℕ) → length state ≡ stateBytes → ((i : ℕ) → i < stateBytes → getD state i 0 < 256)
       → replayRefusal (stateFrom state .n) j ≢ 0 → replayCall state j .state ≡ state
+  pub joins : (h sums lengths lent : List ℕ) (n : ℕ) → JoinLeaves h sums lengths lent n
+  pub parts :
+      (key : List ℕ) (states files : List (List ℕ)) → AllAgree key (map stateFrom states) files → Whole files → length (flatten files) ≤ maxBytes
+      → (one : List ℕ) → stateFrom one .h ≡ hashKey key → (lent : List ℕ) (n : ℕ)
+      → statesJoined one states lent n ≡ record { refusal = 0; sum = bytesOf (sum (hashKey key) (flatten files)); n = length (flatten files) }

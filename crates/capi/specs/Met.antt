@@ -2,12 +2,13 @@
 -- whatever was lent; and of lists in which journals stand, beside the editor that replays them. A hypothesis added to the theorem, such as a bound
 -- on its list, would break what is said here. The proof is `boundary-met` in proofs/BoundaryMet.
 use mathlib.Core.Path.{_≡_}
-use mathlib.Core.Bool.{false}
-use mathlib.Core.List.{List, _++_, flatten}
-use Prim.Native.Nat.{ℕ, _+_, _≤_, _<_, _^_}
+use mathlib.Core.Bool.{true, false}
+use mathlib.Core.Logic.{_≢_}
+use mathlib.Core.List.{List, [], _∷_, _++_, map, flatten}
+use Prim.Native.Nat.{ℕ, _+_, _*_, _%_, _≤_, _<_, _^_}
 use lib.ListN.{length, getD, replicate}
 use Rattle.cipher.specs.Aes.{keyFits}
-use Rattle.field.specs.Field.{sum, blankCount, maxBytes}
+use Rattle.field.specs.Field.{bytesOf, sum, blankCount, maxBytes, Whole, joined}
 use Rattle.gcm.specs.Gcm.{hashKey}
 use Rattle.file.specs.Edits.{append}
 use Rattle.file.specs.States.{Start, Reading, started, readFile}
@@ -18,8 +19,8 @@ use Rattle.journal.specs.Journals.{maxJournal}
 use Rattle.journal.specs.Singly.{Task, Editor, idle, workedAll}
 use Rattle.journal.specs.Met.{appendJournal, Replayable}
 use Rattle.capi.specs.Bytes.{stateBytes, stateFrom}
-use Rattle.capi.specs.Calls.{EditCall, editCall, startCall, readCall, sealCall, checkCall, replayCall}
-use Rattle.capi.specs.LentRuns.{LentRun, lentBegun, lentRun, lentTasks}
+use Rattle.capi.specs.Calls.{EditCall, editCall, startCall, readCall, sealCall, checkCall, replayCall, joinCall}
+use Rattle.capi.specs.LentRuns.{LentRun, lentBegun, lentRun, lentTasks, statesJoined}
 
 -- a start that left x, and appends behind it that left l: none is refused, the start's count is a blank file's and the total the appends', and the
 -- bytes hold sum and length of the file with every part (document 01, "The file and its five edits"; document 02, Q-4)
@@ -54,7 +55,8 @@ pub record WorkedInBytes (l : LentRun) (w : Editor) : Type 0 where
   pub refusals : l .refusals ≡ w .refusals
 
 -- so after every list of appends within the limit, and after every list of tasks, whatever was lent. A start or a read with a key of the wrong
--- length is answered 1 and leaves what was lent, and a journal with more bytes than it may have leaves the lent state; ours
+-- length is answered 1 and leaves what was lent, and a journal with more bytes than it may have leaves the lent state. Files that are each read join to the
+-- sum and the length of all their bytes, and a join with a part behind a broken block is answered 5 and leaves what was lent; ours
 pub record BoundaryMet : Type 0 where
   pub start-grows :
       (s : Start) → AcceptedStart s → (lent : List ℕ) (count : ℕ) (parts : List (List ℕ)) → s .n + length (flatten parts) ≤ maxBytes
@@ -83,3 +85,12 @@ pub record BoundaryMet : Type 0 where
   pub read-works :
       (r : Reading) → AcceptedRead r → (lent : List ℕ) (ts : List Task)
       → WorkedInBytes (lentTasks (lentBegun (readCall r lent .state)) ts) (workedAll (idle (readFile r .state)) ts)
+  pub reads-join :
+      (key : List ℕ) (arm last : ℕ) (files : List (List ℕ)) → keyFits key ≡ true → arm < 2 ^ 32 → last < 2 ^ 64 → Whole files
+      → length (flatten files) ≤ maxBytes → (state lent : List ℕ) (n : ℕ)
+      → let reads : List ℕ → List ℕ = λ file. readCall (record { key = key; arm = arm; last = last; file = file }) state .state in
+      statesJoined (reads []) (map reads files) lent n
+      ≡ record { refusal = 0; sum = bytesOf (sum (hashKey key) (flatten files)); n = length (flatten files) }
+  pub join-refused :
+      (h s₂ s₃ l₂ l₃ : List ℕ) (n : ℕ) → joined h s₂ l₂ .refusal ≡ 0 → l₂ ≢ [] → joined h s₂ l₂ .n % 16 ≢ 0 → length s₃ ≡ 16 * length (n ∷ l₃)
+      → (lent : List ℕ) (m : ℕ) → joinCall h (s₂ ++ s₃) (l₂ ++ (n ∷ l₃)) lent m ≡ record { refusal = 5; sum = lent; n = m }

@@ -35,7 +35,9 @@ pub fn field_number(a: field::Answer) -> u64
         field::Answer::Refused(cause) => match cause {
             field::Cause::InputLength => 1,
             field::Cause::TooLong => 2,
+            field::Cause::PartLength => 5,
             field::Cause::OutputLength => 7,
+            field::Cause::SumsLength => 15,
         },
     }
 }

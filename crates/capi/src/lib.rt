@@ -13,20 +13,23 @@ use file::Answer;
 use file::Checked;
 use file::State;
 use journal::replay;
+use packing::BLOCK_BYTES;
 use packing::STATE_BYTES;
 use packing::arm_of;
 use packing::decode;
 use packing::encode;
+use packing::hash_key_of;
 use packing::last_of;
 use packing::length_of;
+use packing::sum_of;
 ghost use mathlib.Core.Path.{_≡_};
 ghost use Rattle.cipher.specs.Aes.{encryptRefusal, encryptOutput};
-ghost use Rattle.field.specs.Field.{multiplyRefusal, multiplyOutput, ghashRefusal, ghashOutput};
+ghost use Rattle.field.specs.Field.{bytesOf, multiplyRefusal, multiplyOutput, ghashRefusal, ghashOutput};
 ghost use Rattle.gcm.specs.Gcm.{gmacRefusal, gmacOutput, encrypted, encryptResult, decrypted, decryptResult};
 ghost use Rattle.file.specs.Edits;
 ghost use Rattle.capi.specs.Bytes.{stateFrom};
-ghost use Rattle.capi.specs.Calls.{editCall, startCall, readCall, sealCall, checkCall, replayCall};
-ghost use Rattle.capi.specs.Contracts.{editResult, readResult, sealResult, checkResult, replayResult};
+ghost use Rattle.capi.specs.Calls.{editCall, startCall, readCall, sealCall, checkCall, replayCall, joinCall};
+ghost use Rattle.capi.specs.Contracts.{editResult, readResult, sealResult, checkResult, replayResult, joinResult};
 
 // AES-128 of one block. Refused, in this order, with 1 where key or block is not 16 bytes and with 7 where out is not.
 #[no_mangle]
@@ -54,6 +57,32 @@ pub extern "C" fn armfile_ghash(h: &[u8], a: &[u8], c: &[u8], out: &mut [u8]) ->
     ensures output { λ _. ⌜ now (out .exit) ≡ ghashOutput (now (h .entry)) (now (a .entry)) (now (c .entry)) (now (out .entry)) ⌝ }
 {
     field_number(field::ghash(h, a, c, out))
+}
+
+// Joins parts under the hash key h, as `field::join` does: sums holds 16 bytes a part and lengths a length each. Refused, in this order, with 1 where h is
+// not 16 bytes, with 15 where sums is not 16 bytes a length, with 5 where any length but the last is not a multiple of 16, and with 2 where the total passes
+// 2^61 - 1; sum and n then stay as they were.
+#[no_mangle]
+pub extern "C" fn armfile_join(
+    h: &[u8],
+    sums: &[u8],
+    lengths: &[u64],
+    sum: &mut [u8; BLOCK_BYTES],
+    n: &mut u64,
+) -> u64
+    ensures { λ r. ⌜ joinResult r (now (sum .exit)) (now (n .exit))
+        ≡ joinCall (now (h .entry)) (now (sums .entry)) (now (lengths .entry)) (now (sum .entry)) (now (n .entry)) ⌝ }
+{
+    let joined = field::join(h, sums, lengths);
+    let answer = joined.answer;
+    let number = field_number(answer);
+    if number != 0 {
+        return number;
+    }
+    let whole = joined.sum;
+    whole.write(sum, 0);
+    *n = joined.length;
+    0
 }
 
 // GMAC of a under a key and a nonce. Refused, in this order, with 1 where the key is not 16 bytes, with 9 where the nonce is empty, with 7 where
@@ -247,6 +276,22 @@ pub extern "C" fn armfile_last(state: &[u8; STATE_BYTES]) -> u64
     ensures { λ r. ⌜ r ≡ stateFrom (now (state .entry)) .last ⌝ }
 {
     last_of(state)
+}
+
+// The running sum of the file, as the state holds it.
+#[no_mangle]
+pub extern "C" fn armfile_sum(state: &[u8; STATE_BYTES], out: &mut [u8; BLOCK_BYTES])
+    ensures { λ _. ⌜ now (out .exit) ≡ bytesOf (stateFrom (now (state .entry)) .s) ⌝ }
+{
+    sum_of(state).write(out, 0);
+}
+
+// The hash key H, as the state holds it. It is a secret, as the key is.
+#[no_mangle]
+pub extern "C" fn armfile_hash_key(state: &[u8; STATE_BYTES], out: &mut [u8; BLOCK_BYTES])
+    ensures { λ _. ⌜ now (out .exit) ≡ bytesOf (stateFrom (now (state .entry)) .h) ⌝ }
+{
+    hash_key_of(state).write(out, 0);
 }
 
 // What a check finds of a slip: the verdict is 0 for not genuine, 1 for current, 2 for stale and 3 for ahead. Refused as `State::check` is; the

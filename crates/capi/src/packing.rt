@@ -11,15 +11,18 @@ ghost use Rattle.capi.specs.Bytes.{packedState, stateFrom};
 // How many bytes hold a state.
 pub const STATE_BYTES: usize = 84;
 
+// How many bytes hold a block.
+pub const BLOCK_BYTES: usize = 16;
+
 // The state that the bytes hold.
 pub fn decode(b: &[u8; STATE_BYTES]) -> State
     ensures { λ r. ⌜ r ≡ stateFrom (now (b .entry)) ⌝ }
 {
     let all: &[u8] = b;
     let key = Key::from_bytes(&all[..16]);
-    let h = Block::load(0, all, 1);
+    let h = hash_key_of(b);
     let i = Block::load(0, all, 2);
-    let s = Block::load(0, all, 3);
+    let s = sum_of(b);
     let n = length_of(b);
     let arm = arm_of(b);
     let last = last_of(b);
@@ -56,6 +59,22 @@ pub fn last_of(b: &[u8; STATE_BYTES]) -> u64
 {
     let all: &[u8] = b;
     number_at(0, all, 76, 8)
+}
+
+// The hash key there.
+pub fn hash_key_of(b: &[u8; STATE_BYTES]) -> Block
+    ensures { λ r. ⌜ r ≡ stateFrom (now (b .entry)) .h ⌝ }
+{
+    let all: &[u8] = b;
+    Block::load(0, all, 1)
+}
+
+// The file's sum there.
+pub fn sum_of(b: &[u8; STATE_BYTES]) -> Block
+    ensures { λ r. ⌜ r ≡ stateFrom (now (b .entry)) .s ⌝ }
+{
+    let all: &[u8] = b;
+    Block::load(0, all, 3)
 }
 
 // The bytes of a state, written over all that stood there.

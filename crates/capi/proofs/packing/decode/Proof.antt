@@ -13,14 +13,14 @@ slice-aggregate-from-bytes c = sym (key-size (c .before .before .args .b .now) (
 from-bytes-requires : tie.Need-from-bytes-requires
 from-bytes-requires c κs = length-fits _ (key-size (c .before .before .args .b .now) (c .before .all .given .0))
 
+hash-key-of-requires : tie.Need-hash-key-of-requires
+hash-key-of-requires c κs = search needs
+
 load-requires : tie.Need-load-requires
 load-requires c κs = search needs
 
-load-requires-2 : tie.Need-load-requires-2
-load-requires-2 c κs = search needs
-
-load-requires-3 : tie.Need-load-requires-3
-load-requires-3 c κs = search needs
+sum-of-requires : tie.Need-sum-of-requires
+sum-of-requires c κs = search needs
 
 length-of-requires : tie.Need-length-of-requires
 length-of-requires c κs = search needs
@@ -35,8 +35,8 @@ returns : tie.Need-returns
 unfolding stateFrom
 returns c =
     let h = c .before .before .before .before .before in
-    decoded _ (h .before .from-bytes .ensures) (h .load .ensures) (c .before .before .before .before .load2 .ensures)
-    (c .before .before .before .load3 .ensures) (c .before .before .length-of .ensures) (c .before .arm-of .ensures)
+    decoded _ (h .before .from-bytes .ensures) (h .hash-key-of .ensures) (c .before .before .before .before .load .ensures)
+    (c .before .before .before .sum-of .ensures) (c .before .before .length-of .ensures) (c .before .arm-of .ensures)
     (c .last-of .ensures)
 
 pub decode-spec : {M : Type 1} → statement M
@@ -45,9 +45,9 @@ decode-spec =
     (tie.spec
     slice-aggregate-from-bytes
     from-bytes-requires
+    hash-key-of-requires
     load-requires
-    load-requires-2
-    load-requires-3
+    sum-of-requires
     length-of-requires
     arm-of-requires
     last-of-requires
