@@ -5,7 +5,8 @@
  * and its companion I, running sum (GHASH without its length block), length,
  * arm number, last used seal number. It begins with a file that is at hand, or
  * with a blank one, which is a fill byte and a length. Five edits move that
- * state without reading the file, one by one or as a journal of them. A seal
+ * state without reading the file, one by one or as a journal of them. Of a file
+ * that is kept in parts, sum and length follow from those of the parts. A seal
  * writes a slip of 36 bytes whose tag is AES-128 GMAC of the whole file; a
  * check says whether a slip is genuine and, if it is, whether it is current,
  * stale or ahead: whether its seal number is the state's last used one, a
@@ -17,91 +18,103 @@
  *
  * CONVENTIONS
  *
- * Every function but the three that read a state's fields (armfile_length,
- * armfile_arm, armfile_last) returns 0 when the work was done, or the number of
- * a refusal (below). A refused call leaves every lent buffer, the state, the
- * count and the verdict as they were, with one exception: armfile_replay always
- * writes state, count and offset, and what it did before the refused record
- * stays done. No input makes a call fail in any other way: there is no abort,
- * no assertion and no error state. This is proved, for all inputs, of the
- * source; the compiler's back end and linker are not covered.
+ * Every function but the five that read a state's fields (armfile_length,
+ * armfile_arm, armfile_last, armfile_sum, armfile_hash_key) returns 0 when the
+ * work was done, or the number of a refusal (below). A refused call leaves
+ * every lent buffer, the state, the count, the verdict, and a join's sum and n
+ * as they were, with one exception: armfile_replay always writes state, count
+ * and offset, and what it did before the refused record stays done. No input
+ * makes a call fail in any other way: there is no abort, no assertion and no
+ * error state. This is proved, for all inputs, of the source; the compiler's
+ * back end and linker are not covered.
  *
  * Nothing is allocated, and no static data is written: calls on different
  * states may run in different threads. Calls on one state must not overlap in
  * time.
  *
  * A byte slice passes as a pointer and a length in bytes. No alignment is
- * asked of it.
+ * asked of it. A slice of uint64_t, the lengths of a join, passes as a pointer,
+ * aligned as a uint64_t is, and the number of its elements.
  *
  * WHAT CALLERS MUST GUARANTEE
  *
  * Nothing in the library can test these, and nothing is promised without them:
  *
  *  - Every pointer is valid and not NULL, also where its length is 0 (any
- *    address of an object then serves).
+ *    address of an object then serves; of `lengths`, an aligned one).
  *  - Every length is the true one: that many bytes may be read, and of `out`,
  *    of an encryption's `tag` and of a seal's `slip` written. It is below 2^63.
- *  - `state` points to ARMFILE_STATE_BYTES bytes, `count` and `offset` each to
- *    an aligned uint64_t, `verdict` to one byte. None of them needs a value
- *    before the call, but for a state that is read: that of an edit, a replay,
- *    a seal, a check or one of the three that read its fields.
+ *  - `lengths` points to an aligned array of lengths_len uint64_t, fewer than
+ *    2^60.
+ *  - `state` points to ARMFILE_STATE_BYTES bytes; `count`, `offset` and the `n`
+ *    of a join each to an aligned uint64_t; `verdict` to one byte; the `sum` of
+ *    a join and the `out` of armfile_sum and of armfile_hash_key to 16 bytes.
+ *    None of them needs a value before the call, but for a state that is read:
+ *    that of an edit, a replay, a seal, a check or one of the five that read
+ *    its fields.
  *  - What a call may write (a state that is not const, count, offset, out, the
- *    tag of an encryption, the slip of a seal, verdict) overlaps nothing else
- *    that is passed to it: so no text is encrypted or decrypted in place. What
- *    is only read may overlap freely: old and new of a change may be the same
- *    bytes.
+ *    tag of an encryption, the slip of a seal, verdict, the sum and the n of a
+ *    join) overlaps nothing else that is passed to it: so no text is encrypted
+ *    or decrypted in place. What is only read may overlap freely: old and new
+ *    of a change may be the same bytes.
  *
  * TIME
  *
  * The code has no branch and no address that depends on a key, on a hash key,
- * on a running sum, on a file's bytes or on a text, but for one jump in
- * armfile_check and one in armfile_gcm_decrypt, each on whether the tag fits,
- * which is public once the call has answered. Two tags are compared by one test
- * of all their bits. The cipher has no table: it computes its substitution by
- * gates on bits. Time does depend on lengths, on places (p, n), on a blank
- * file's fill byte, on the arm number, on seal numbers, the last used one too,
- * on a slip's bytes outside its tag and on the heads of a journal's records;
- * these are taken for public. Blocks are multiplied by multiplications of
- * integers, which are taken to last the same whatever they multiply, as they do
- * on x86-64; nothing is divided. This is observed of the compiled library
- * (tests/ct), but for how long a multiplication lasts, and is not part of what
- * is proved.
+ * on a running sum, that of a part too, on a file's bytes or on a text, but for
+ * one jump in armfile_check and one in armfile_gcm_decrypt, each on whether the
+ * tag fits, which is public once the call has answered. Two tags are compared
+ * by one test of all their bits. The cipher has no table: it computes its
+ * substitution by gates on bits. Time does depend on lengths, those of a file's
+ * parts too, on places (p, n), on a blank file's fill byte, on the arm number,
+ * on seal numbers, the last used one too, on a slip's bytes outside its tag and
+ * on the heads of a journal's records; these are taken for public. Blocks are
+ * multiplied by multiplications of integers, which are taken to last the same
+ * whatever they multiply, as they do on x86-64; nothing is divided. This is
+ * observed of the compiled library (tests/ct), but for how long a
+ * multiplication lasts, and is not part of what is proved.
  *
  * STACK
  *
  * Bytes of stack that a call takes, with its return address and the arguments
  * that go by the stack. Of two figures the second is for inputs that are all
  * shorter than 512 bytes; a longer one is hashed by a table of powers of H,
- * which stands on the stack. A figure is the same at every length above 0, but
- * for those of calls with two, which take less at some, and at 0 no more; that
- * of armfile_start is the same with fill 0 as with another. This is measured
- * (tests/stack), and is not part of what is proved:
+ * which stands on the stack. A figure is the same at every length above 0, a
+ * join's at every number of parts, and at 0 no more; but calls with two take
+ * less at some, and an edit and a join where they need no power of H. A start's
+ * is the same with fill 0 as with another. This is measured (tests/stack), and
+ * is not part of what is proved:
  *
  *      armfile_encrypt      1000            armfile_prepend     1080
  *      armfile_multiply      184            armfile_drop_front  1080
  *      armfile_ghash       12712   648      armfile_cut_tail    1080
- *      armfile_gmac        13384  1560      armfile_replay      1336
- *      armfile_gcm_encrypt 13272  3368      armfile_seal        1496
- *      armfile_gcm_decrypt 13256  3352      armfile_check       1432
- *      armfile_start        1368            armfile_length         8
- *      armfile_read        12872  1272      armfile_arm            8
- *      armfile_change       1080            armfile_last           8
- *      armfile_append       1080
+ *      armfile_join          584            armfile_replay      1336
+ *      armfile_gmac        13384  1560      armfile_seal        1496
+ *      armfile_gcm_encrypt 13272  3368      armfile_check       1432
+ *      armfile_gcm_decrypt 13256  3352      armfile_length         8
+ *      armfile_start        1368            armfile_arm            8
+ *      armfile_read        12872  1272      armfile_last           8
+ *      armfile_change       1080            armfile_sum           56
+ *      armfile_append       1080            armfile_hash_key      56
  *
  * WHAT TO WIPE
  *
  * A call leaves on the stack, below its caller's frame, what it worked with:
  * keys, hash keys, H, I and sums were found there after every call but the
- * three that read a state's fields, and after the two of GCM also key stream,
- * which is as good as the text to whoever has the ciphertext. The library wipes
- * nothing: what the compiler copies where is out of the source's reach. A
- * caller into whose stack somebody else may look wipes, after the last call,
+ * three that read a state's public fields, and after the two of GCM also key
+ * stream, which is as good as the text to whoever has the ciphertext. The
+ * library wipes nothing: what the compiler copies where is out of the source's
+ * reach. A caller into whose stack somebody else may look wipes, after the last
+ * call,
  *
  *  - the stack below itself, by calling, from the function that made the calls,
  *    one that is not inlined and overwrites at least as many bytes as the
  *    largest figure above (examples/c/seal.c overwrites 16384; nothing was
  *    found after it);
  *  - every state that is no longer used, copies too: it holds the key;
+ *  - H and the sums that it took out of states or had from a join: whoever has
+ *    H can forge tags, and to whoever knows a file its sum leaves few hash keys
+ *    that fit;
  *  - its own copies of the key, and of texts that nobody else is to read.
  *
  * Slips, counts, offsets, verdicts, nonces, ciphertexts and tags that were sent
@@ -111,8 +124,10 @@
  *
  * Nanoseconds a call takes, the median of many, on one core of an Intel Xeon
  * server (no instruction for AES or for products of polynomials is used), all of
- * one run; other runs there took from nine tenths to nearly twice as long. Take
- * them as orders of magnitude, and `make cost` for your own machine:
+ * one run; other runs there took from nine tenths to nearly twice as long. That
+ * of a join is of an AMD EPYC server, where the others took from three quarters
+ * to eleven tenths as long. Take them as orders of magnitude, and `make cost`
+ * for your own machine:
  *
  *      armfile_start of 0 bytes, of 1 GiB of FF  9 000, 14 000
  *      armfile_read of 1 KiB, of 1 MiB        11 000, 1 400 000
@@ -124,16 +139,19 @@
  *      armfile_gcm_encrypt of 1 KiB, of 1 MiB  9 800, 7 100 000
  *      armfile_gcm_decrypt of 1 KiB                      9 800
  *      armfile_encrypt, armfile_multiply             1 100, 90
+ *      armfile_join of 1000 parts of 1 MiB           1 100 000
  *
  * Most of what an edit takes is its products of blocks, some 57 each; it
  * returns how many it took. armfile_start returns how many a blank file took,
- * some 52 each. A block of an input of 512 bytes or more takes some 21. What
- * armfile_start and armfile_read take besides the file is H's companion I, 127
- * squares and 127 products. A replay takes a little less than its edits when
- * they are made singly. Of GCM the cipher takes four fifths, some 86 a block
- * (what an encryption of 1 MiB takes more than a read of it), and of up to two
- * blocks behind the last sixteen some 600 each. docs/BENCHMARKS.md has more,
- * beside other libraries.
+ * some 52 each. A join takes, for each part, one for each binary digit of its
+ * number of blocks and one more for each one among those: 18 for 1 MiB. A block
+ * of an input of 512 bytes or more takes some 21. What armfile_start and
+ * armfile_read take besides the file is H's companion I, 127 squares and 127
+ * products. A replay takes a little less than its edits when they are made
+ * singly. Of GCM the cipher takes four fifths, some 86 a block (what an
+ * encryption of 1 MiB takes more than a read of it), and of up to two blocks
+ * behind the last sixteen some 600 each. docs/BENCHMARKS.md has more, beside
+ * other libraries.
  *
  * THE STATE
  *
@@ -156,8 +174,9 @@
  * that is used later repeats seal numbers, which breaks GMAC, so never go back
  * to an older copy after a seal. A slip that a check finds ahead is a sign of
  * it (armfile_check()). Wiping it is the caller's (WHAT TO WIPE).
- * armfile_length(), armfile_arm() and armfile_last() read its public fields, so
- * that no caller needs this layout.
+ * armfile_length(), armfile_arm() and armfile_last() read its public fields,
+ * and armfile_sum() and armfile_hash_key() two of the secret ones, for a join:
+ * no caller needs this layout.
  *
  * Any ARMFILE_STATE_BYTES bytes are taken as a state; no call trusts what it
  * finds there. Where n passes 2^61 - 1, every edit, replay, seal and check
@@ -176,9 +195,28 @@
  * blocks. In time pieces cost more, since an append goes block by block and
  * armfile_read() by sixteen blocks at once: 16 MiB took 2.7 times as long in
  * pieces of 4 KiB as by one armfile_read(), 3.7 times in pieces of 256 bytes
- * and 2.6 times in pieces of 1 MiB. A call that joins the sums of parts, each
- * of them read as a whole, is to come (Q-6): by it a file in parts will take
- * about as long as one read.
+ * and 2.6 times in pieces of 1 MiB.
+ *
+ * A file that is kept in parts, one a gripper, say, need not be read again as a
+ * whole. Each part is read by an armfile_read() of its own, or has a controller
+ * of its own; armfile_sum() and armfile_length() give its sum and its length,
+ * and armfile_join() makes of these the sum and the length of the whole, under
+ * the H that armfile_hash_key() gives. It takes one multiplication by a power
+ * of H for each part, and reads no byte. Every part but the last must be of
+ * whole blocks, and all must be under one key; controllers that seal under one
+ * key must differ in their arm numbers. A joined whole may itself be a part, so
+ * parts may be joined in groups, or as they come. The library cannot see
+ * whether a sum is that of the part: where one is not, the sum of the whole
+ * stands for no file.
+ *
+ * H AND SUMS ARE SECRETS, as the key is (WHAT TO WIPE). No call makes a state
+ * of a sum and a length, but the tag of the whole follows from them: it is
+ * (S + L) times H, by armfile_multiply(), plus AES(key, J), by
+ * armfile_encrypt(). S is the sum; L is the length in bits, in 64 bits, and 64
+ * zero bits; J is a nonce of 12 bytes and the number 1 in 32 bits. Numbers are
+ * big-endian, and to add is exclusive or. With a slip's arm and seal number for
+ * the nonce, it is the tag of a slip of the whole. One nonce must never serve
+ * two files under one key, here as in a seal.
  *
  * TRUE BYTES
  *
@@ -254,7 +292,10 @@ extern "C" {
 #define ARMFILE_OUT_OF_FILE 3
 /** \brief Old and new differ in length. */
 #define ARMFILE_UNEQUAL_PAIR 4
-/** \brief Prepend or drop-front of a length that is no multiple of 16. */
+/**
+ * \brief Prepend or drop-front of a length that is no multiple of 16, or a part
+ * of such a length that is not the last of a join.
+ */
 #define ARMFILE_BROKEN_BLOCK 5
 /** \brief The last used seal number is 2^64 - 1: no number is left. */
 #define ARMFILE_NUMBERS_USED 6
@@ -278,9 +319,11 @@ extern "C" {
 #define ARMFILE_TEXT_TOO_LONG 13
 /** \brief The tag does not fit: no text is released. */
 #define ARMFILE_WRONG_TAG 14
+/** \brief The sums of a join are not 16 bytes for each length. */
+#define ARMFILE_SUMS_LENGTH 15
 
 /* ==================================================================== */
-/* Cipher, field, GHASH, GMAC and GCM: no state.                        */
+/* Cipher, field, GHASH, join, GMAC and GCM: no state.                  */
 
 /**
  * \brief AES-128 encryption of one block.
@@ -342,6 +385,48 @@ uint64_t armfile_ghash(const uint8_t *h, size_t h_len,
 	const uint8_t *a, size_t a_len,
 	const uint8_t *c, size_t c_len,
 	uint8_t *out, size_t out_len);
+
+/**
+ * \brief Joins parts of a file: sum and length of the whole, from theirs.
+ *
+ * Part i, counted from 0 at the file's front, has the 16 bytes of `sums` from
+ * 16 * i on for its sum, and `lengths[i]` for its length. A part's sum is the
+ * one that armfile_sum() takes out of a state of it, or what a join of its own
+ * parts gave. It counts times h to the number of blocks in the parts after it,
+ * a length's blocks being a sixteenth of it, rounded up. `sum` receives what
+ * the parts' sums so add up to, and `n` the total of the lengths. Where the
+ * sums are those of the parts, these are sum and length of the joined bytes, as
+ * armfile_read() makes them of the whole. No parts are the empty file, with a
+ * sum of zero and a length of 0. No byte of a part is read.
+ *
+ * Refused with 1 where `h_len` is not 16, then with 15 where `sums_len` is not
+ * 16 times `lengths_len`, then with 5 where any length but the last is no
+ * multiple of 16, also where the last is 0, then with 2 where the total passes
+ * 2^61 - 1 (as whole numbers: nothing wraps); sum and n then stay as they were.
+ *
+ * The work is at most two products for each binary digit of a part's number of
+ * blocks, and one for a part of no bytes.
+ *
+ * \param h            the parts' hash key, 16 bytes (armfile_hash_key()); zero
+ *                     is allowed. It is a secret.
+ * \param h_len        its length; anything but 16 is refused.
+ * \param sums         the parts' sums, one behind the other. They are secrets,
+ *                     and are taken as they are (A FILE IN PIECES).
+ * \param sums_len     their length in bytes; anything but 16 * lengths_len is
+ *                     refused.
+ * \param lengths      the parts' lengths in bytes, all but the last multiples
+ *                     of 16. They are taken for public (TIME).
+ * \param lengths_len  the number of parts; it may be 0.
+ * \param sum          receives the sum of the whole, 16 bytes; a secret. It
+ *                     must not overlap h, sums, lengths or n.
+ * \param n            receives the length of the whole, at most 2^61 - 1. It
+ *                     must not overlap h, sums or lengths.
+ * \return 0, 1, 15, 5 or 2.
+ */
+uint64_t armfile_join(const uint8_t *h, size_t h_len,
+	const uint8_t *sums, size_t sums_len,
+	const uint64_t *lengths, size_t lengths_len,
+	uint8_t sum[ARMFILE_BLOCK_BYTES], uint64_t *n);
 
 /**
  * \brief AES-128 GMAC of a under a key and a nonce.
@@ -528,8 +613,9 @@ uint64_t armfile_read(const uint8_t *key, size_t key_len,
 	const uint8_t *file, size_t file_len, uint8_t state[ARMFILE_STATE_BYTES]);
 
 /* ==================================================================== */
-/* What a state holds. These three take any state and refuse none: what */
-/* they return is no refusal's number.                                  */
+/* What a state holds. These five take any state and refuse none: what  */
+/* the first three return is no refusal's number, and the last two      */
+/* return nothing.                                                      */
 
 /**
  * \brief The file's length in bytes.
@@ -555,6 +641,32 @@ uint32_t armfile_arm(const uint8_t state[ARMFILE_STATE_BYTES]);
  *         or armfile_read() where there was none since.
  */
 uint64_t armfile_last(const uint8_t state[ARMFILE_STATE_BYTES]);
+
+/**
+ * \brief The file's running sum S, for a join.
+ *
+ * IT IS A SECRET: to whoever knows the file it leaves few hash keys that fit
+ * (WHAT TO WIPE).
+ *
+ * \param state  the state, ARMFILE_STATE_BYTES bytes; it is only read.
+ * \param out    receives the sum, 16 bytes, whatever the state is. It must not
+ *               overlap state.
+ */
+void armfile_sum(const uint8_t state[ARMFILE_STATE_BYTES],
+	uint8_t out[ARMFILE_BLOCK_BYTES]);
+
+/**
+ * \brief The hash key H, for a join.
+ *
+ * IT IS A SECRET: whoever has it can forge slips (WHAT TO WIPE). All states
+ * under one key have the same.
+ *
+ * \param state  the state, ARMFILE_STATE_BYTES bytes; it is only read.
+ * \param out    receives the hash key, 16 bytes, whatever the state is. It must
+ *               not overlap state.
+ */
+void armfile_hash_key(const uint8_t state[ARMFILE_STATE_BYTES],
+	uint8_t out[ARMFILE_BLOCK_BYTES]);
 
 /* ==================================================================== */
 /* The five edits.                                                      */
