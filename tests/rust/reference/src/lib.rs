@@ -1,5 +1,6 @@
 //! A plain second implementation of the arm file seal of document 01, and of
-//! document 02's edit journal, Q-1, GCM, Q-2, fill bytes, Q-4, and verdicts, Q-5.
+//! document 02's edit journal, Q-1, GCM, Q-2, fill bytes, Q-4, verdicts, Q-5, and
+//! joins of parts, Q-6.
 //!
 //! FIPS 197 decides for AES, NIST SP 800-38D for the field, GHASH, GMAC and
 //! GCM, and the two documents for everything else. Clear code is preferred to
@@ -10,16 +11,17 @@
 //! - `ghash`: the running sum, GHASH and GMAC.
 //! - `tables`: hashing of very long inputs.
 //! - `blank`: the running sum of a blank file, and what it counts.
+//! - `join`: the join of parts on slices, with its refusals.
 //! - `gcm`: encryption and decryption of a text, over `aes` and `ghash`.
 //! - `bits`: numbers in bytes, packed most significant bit first.
 //! - `slip`: the 36 bytes of a slip, and the verdicts on it.
 //! - `state`: the controller, by document 01's formulas.
 //! - `journal`: the records of a journal, and their replay.
 //! - `machine`: the plain machine, from the bytes alone.
-//! - `calls`: the calls without a state on slices, with their refusals.
+//! - `calls`: the other calls without a state on slices, with their refusals.
 //! - `refusal`: the causes and their numbers.
-//! - `random`: a small repeatable random generator for tests, and the bytes
-//!   that tests of edits choose with it.
+//! - `random`: a small repeatable random generator for tests, and what tests of
+//!   edits and of joins choose with it.
 
 pub mod aes;
 pub mod bits;
@@ -28,6 +30,7 @@ pub mod calls;
 pub mod field;
 pub mod gcm;
 pub mod ghash;
+pub mod join;
 pub mod journal;
 pub mod machine;
 pub mod random;

@@ -1,5 +1,11 @@
 //! A small repeatable random generator for tests, splitmix64, and the bytes
-//! that tests of edits choose with it.
+//! that tests of edits, and the lengths that tests of joins, choose with it.
+
+/// The binary digits of a part's block count: so few that its bytes can be had.
+pub const FEW: u64 = 3;
+
+/// So many that a thousand parts are just not too long together.
+pub const MANY: u64 = 47;
 
 /// The generator's whole memory is one 64-bit number.
 pub struct Random(u64);
@@ -75,6 +81,25 @@ impl Random {
             count += self.below(16);
         }
         self.bytes(count as usize)
+    }
+
+    /// The lengths of so many parts, each of less than 2^width blocks and often
+    /// of few or none. All are whole blocks, but for the last one, every other
+    /// time.
+    pub fn some_parts(&mut self, count: usize, width: u64) -> Vec<u64> {
+        let blocks = |_| match self.below(3) {
+            0 => 0,
+            1 => self.below(5),
+            _ => {
+                let limit = 2 << self.below(width);
+                self.below(limit)
+            }
+        };
+        let mut lengths: Vec<u64> = (0..count).map(blocks).map(|m| 16 * m).collect();
+        if let (Some(last), true) = (lengths.last_mut(), self.once_in(2)) {
+            *last += self.below(16);
+        }
+        lengths
     }
 }
 

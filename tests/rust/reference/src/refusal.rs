@@ -1,5 +1,5 @@
-//! Document 01, "Causes and their numbers", and those of document 02, Q-1 and
-//!
+//! Document 01, "Causes and their numbers", and those of document 02, Q-1, Q-2
+//! and Q-6.
 
 /// Key, hash key or block not 16 bytes.
 pub const NOT_SIXTEEN: u64 = 1;
@@ -9,7 +9,8 @@ pub const TOO_LONG: u64 = 2;
 pub const OUTSIDE: u64 = 3;
 /// Old and new differ in length.
 pub const UNEQUAL: u64 = 4;
-/// Prepend or drop-front length no multiple of 16.
+/// Prepend or drop-front length no multiple of 16, or that of a part which is
+/// not the last.
 pub const NOT_WHOLE: u64 = 5;
 /// Last used number is 2^64 - 1.
 pub const USED_UP: u64 = 6;
@@ -30,6 +31,8 @@ pub const BAD_PLACE: u64 = 12;
 pub const TEXT_TOO_LONG: u64 = 13;
 /// Tag doesn't fit.
 pub const WRONG_TAG: u64 = 14;
+/// Sums' byte length not 16 times the number of lengths.
+pub const BAD_SUMS: u64 = 15;
 
 /// The largest byte length of a file, of A, of C and of a nonce.
 pub const MAX_BYTES: u64 = (1 << 61) - 1;
