@@ -2,16 +2,19 @@
 //! of armfile.h, as safe functions: a slice stands for a pointer and a length,
 //! and the answer is the refusal number, or 0 for work done. A refused call
 //! leaves every lent buffer as it was, but for a replay, which always writes
-//! state, count and offset. The three that read a field of a state refuse
-//! none, and answer the field.
+//! state, count and offset. The five that read a field of a state refuse none:
+//! they answer the field, or write it to `out`.
 //!
 //! Each call is sound for the same reason: every pointer comes from a
 //! reference that lives through the call, with the length of what it refers
-//! to, so it is valid for that many bytes and, where it is `*mut`, for writes
-//! that nothing else sees. The library keeps no pointer, holds no data of its
-//! own and does not unwind.
+//! to, so it is aligned, valid for that many bytes or numbers and, where it is
+//! `*mut`, for writes that nothing else sees. The library keeps no pointer,
+//! holds no data of its own and does not unwind.
 
 #![allow(unsafe_code)]
+
+/// The bytes of a key, of the hash key, of a block, of a sum and of a tag.
+pub const BLOCK_BYTES: usize = 16;
 
 /// The bytes of a lent state.
 pub const STATE_BYTES: usize = 84;
@@ -49,6 +52,16 @@ pub mod c {
             c_len: usize,
             out: *mut u8,
             out_len: usize,
+        ) -> u64;
+        pub fn armfile_join(
+            h: *const u8,
+            h_len: usize,
+            sums: *const u8,
+            sums_len: usize,
+            lengths: *const u64,
+            lengths_len: usize,
+            sum: *mut u8,
+            n: *mut u64,
         ) -> u64;
         pub fn armfile_gmac(
             key: *const u8,
@@ -110,6 +123,8 @@ pub mod c {
         pub fn armfile_length(state: *const u8) -> u64;
         pub fn armfile_arm(state: *const u8) -> u32;
         pub fn armfile_last(state: *const u8) -> u64;
+        pub fn armfile_sum(state: *const u8, out: *mut u8);
+        pub fn armfile_hash_key(state: *const u8, out: *mut u8);
         pub fn armfile_change(
             state: *mut u8,
             p: u64,
@@ -161,19 +176,20 @@ pub mod c {
 }
 
 /// Lent where a slice is empty. Such a slice's own pointer is not null, but
-/// armfile.h asks for that of an object. Nothing is read or written there.
-static NOTHING: u8 = 0;
+/// armfile.h asks for that of an object. Nothing is read or written there. It is
+/// aligned for bytes and for numbers.
+static NOTHING: u64 = 0;
 
-fn pointer(bytes: &[u8]) -> *const u8 {
-    if bytes.is_empty() {
-        return &NOTHING;
+fn pointer<T>(lent: &[T]) -> *const T {
+    if lent.is_empty() {
+        return core::ptr::from_ref(&NOTHING).cast();
     }
-    bytes.as_ptr()
+    lent.as_ptr()
 }
 
 fn pointer_mut(bytes: &mut [u8]) -> *mut u8 {
     if bytes.is_empty() {
-        return core::ptr::from_ref(&NOTHING).cast_mut();
+        return core::ptr::from_ref(&NOTHING).cast_mut().cast();
     }
     bytes.as_mut_ptr()
 }
@@ -221,6 +237,29 @@ pub fn ghash(h: &[u8], a: &[u8], c: &[u8], out: &mut [u8]) -> u64 {
             c.len(),
             pointer_mut(out),
             out.len(),
+        )
+    }
+}
+
+/// `armfile_join`, which [`crate::join()`] makes for a few parts at a time.
+pub fn join(
+    h: &[u8],
+    sums: &[u8],
+    lengths: &[u64],
+    sum: &mut [u8; BLOCK_BYTES],
+    n: &mut u64,
+) -> u64 {
+    // SAFETY: as said at the module's head.
+    unsafe {
+        c::armfile_join(
+            pointer(h),
+            h.len(),
+            pointer(sums),
+            sums.len(),
+            pointer(lengths),
+            lengths.len(),
+            sum.as_mut_ptr(),
+            n,
         )
     }
 }
@@ -355,6 +394,18 @@ pub fn arm(state: &StateBytes) -> u32 {
 pub fn last(state: &StateBytes) -> u64 {
     // SAFETY: as said at the module's head.
     unsafe { c::armfile_last(state.as_ptr()) }
+}
+
+/// `armfile_sum`: [`crate::State::sum`].
+pub fn sum(state: &StateBytes, out: &mut [u8; BLOCK_BYTES]) {
+    // SAFETY: as said at the module's head.
+    unsafe { c::armfile_sum(state.as_ptr(), out.as_mut_ptr()) }
+}
+
+/// `armfile_hash_key`: [`crate::State::hash_key`].
+pub fn hash_key(state: &StateBytes, out: &mut [u8; BLOCK_BYTES]) {
+    // SAFETY: as said at the module's head.
+    unsafe { c::armfile_hash_key(state.as_ptr(), out.as_mut_ptr()) }
 }
 
 /// `armfile_change`: [`crate::State::change`].

@@ -7,7 +7,8 @@
 //! GMAC of the whole file, and a check says whether a slip is genuine, and
 //! whether it is the newest: a [`Verdict`]. A file that is to travel unread is
 //! encrypted by [`gcm_encrypt`] and brought back by [`gcm_decrypt`], which need
-//! no state.
+//! no state. Of a file that is kept in parts [`join()`] gives the sum and the
+//! length, from those of the parts.
 //!
 //! ```
 //! use armfile::{State, Verdict, SLIP_BYTES};
@@ -31,7 +32,7 @@
 //! exception is [`State::replay`], which runs a journal of edits up to the
 //! first that is refused and keeps what those before it did. The library
 //! proves what it answers; what this wrapper adds is that lengths are those of
-//! the slices.
+//! the slices, and that [`join()`] goes through its parts group by group.
 //!
 //! The wrapper needs no allocator and no operating system: it uses `core`
 //! alone, and the library beneath it needs no other.
@@ -48,20 +49,19 @@ extern crate std;
 use core::fmt;
 
 pub mod ffi;
+mod join;
 #[cfg(doctest)]
 mod refused;
 mod wipe;
 
-pub use ffi::{StateBytes, STATE_BYTES};
+pub use ffi::{StateBytes, BLOCK_BYTES, STATE_BYTES};
+pub use join::{join, Part};
 
 /// The bytes of a slip.
 pub const SLIP_BYTES: usize = 36;
 
 /// The version in a slip's first three bits. Any other is refused with 8.
 pub const SLIP_FORMAT: u8 = 1;
-
-/// The bytes of a key, of the hash key, of a block and of a tag.
-pub const BLOCK_BYTES: usize = 16;
 
 /// The largest byte length of a file, of A, of C and of a nonce: 2^61 - 1.
 pub const MAX_BYTES: u64 = (1 << 61) - 1;
@@ -85,7 +85,8 @@ pub enum Refusal {
     OutOfFile,
     /// 4: old and new differ in length.
     UnequalPair,
-    /// 5: the length to prepend or to drop is no multiple of 16.
+    /// 5: the length to prepend or to drop, or that of a part which is not the
+    /// last, is no multiple of 16.
     BrokenBlock,
     /// 6: the last used number is 2^64 - 1, so no number is left.
     NumbersUsed,
@@ -106,13 +107,16 @@ pub enum Refusal {
     TextTooLong,
     /// 14: the tag doesn't fit, so no text was released.
     WrongTag,
+    /// 15: the sums to join are not 16 bytes for each length. Only [`ffi::join`]
+    /// is refused so: [`join()`] takes each sum beside its length.
+    SumsLength,
     /// A number, of a refusal or of a verdict, that this wrapper doesn't know,
     /// which only a library of another version answers.
     Unknown(u64),
 }
 
 /// The causes with their numbers and what is wrong.
-const CAUSES: [(Refusal, u64, &str); 14] = [
+const CAUSES: [(Refusal, u64, &str); 15] = [
     (Refusal::KeyOrBlockLength, 1, "key or block not 16 bytes"),
     (Refusal::TooLong, 2, "more than 2^61 - 1 bytes"),
     (Refusal::OutOfFile, 3, "bytes outside the file"),
@@ -135,6 +139,7 @@ const CAUSES: [(Refusal, u64, &str); 14] = [
         "text of more than 2^36 - 32 bytes",
     ),
     (Refusal::WrongTag, 14, "tag that doesn't fit"),
+    (Refusal::SumsLength, 15, "sums not 16 bytes for each length"),
 ];
 
 impl Refusal {
@@ -391,7 +396,7 @@ impl State {
         &self.bytes
     }
 
-    /// The byte length of the file. No state is refused this, nor the two that
+    /// The byte length of the file. No state is refused this, nor the four that
     /// follow.
     pub fn length(&self) -> u64 {
         ffi::length(&self.bytes)
@@ -405,6 +410,24 @@ impl State {
     /// The last used seal number.
     pub fn last(&self) -> u64 {
         ffi::last(&self.bytes)
+    }
+
+    /// The running sum of the file, GHASH without its length block: with
+    /// [`State::length`] it makes the file a [`Part`]. It is a secret, since who
+    /// knows the file too can work the hash key out.
+    pub fn sum(&self) -> [u8; BLOCK_BYTES] {
+        let mut sum = [0; BLOCK_BYTES];
+        ffi::sum(&self.bytes, &mut sum);
+        sum
+    }
+
+    /// The hash key H, under which [`join()`] joins parts. **It is a secret as
+    /// the key is**: who has it can turn a genuine slip of a file they know into
+    /// one of any other file. The caller's copy is the caller's to wipe.
+    pub fn hash_key(&self) -> [u8; BLOCK_BYTES] {
+        let mut h = [0; BLOCK_BYTES];
+        ffi::hash_key(&self.bytes, &mut h);
+        h
     }
 
     /// The bytes from `p` on, until now `old`, become `new`. `old` must be
@@ -568,7 +591,7 @@ mod tests {
             assert_eq!(back, number);
         }
         assert_eq!(Refusal::of(13), Err(Refusal::TextTooLong));
-        assert_eq!(Refusal::of(15), Err(Refusal::Unknown(15)));
+        assert_eq!(Refusal::of(16), Err(Refusal::Unknown(16)));
         let shown = Refusal::BrokenBlock.to_string();
         assert_eq!(shown, "refused 5: length no multiple of 16");
     }
@@ -634,6 +657,8 @@ mod tests {
         );
         let wrong_tag = gcm_decrypt(&key, &key, &[], &key, &mut out, &[0; 16]);
         assert_eq!(wrong_tag, Err(Refusal::WrongTag));
+        let short = ffi::join(&key, &key[1..], &[16], &mut out, &mut 0);
+        assert_eq!(Refusal::of(short), Err(Refusal::SumsLength));
     }
 
     /// Only under the right tag comes the text back.
@@ -688,6 +713,18 @@ mod tests {
         };
         assert_eq!(replayed.replay(&journal), expected);
         assert_eq!(replayed.as_bytes(), single.as_bytes());
+    }
+
+    /// The hash key is the zero block encrypted, and the sum of one block is that
+    /// block times it.
+    #[test]
+    fn sum_and_hash_key_of_one_block() {
+        let (key, block) = ([1; 16], [5; 16]);
+        let state = State::read(&key, 2, 3, &block).unwrap();
+        let [mut h, mut sum] = [[0; 16]; 2];
+        assert_eq!(encrypt(&key, &[0; 16], &mut h), Ok(()));
+        assert_eq!(multiply(&block, &h, &mut sum), Ok(()));
+        assert_eq!((state.hash_key(), state.sum()), (h, sum));
     }
 
     #[test]

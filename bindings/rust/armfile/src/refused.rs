@@ -36,7 +36,7 @@ refused!(MatchOfTheRefusalsOfToday:
         match refusal {
             KeyOrBlockLength | TooLong | OutOfFile | UnequalPair | BrokenBlock => true,
             NumbersUsed | OutputLength | SlipVersion | EmptyNonce | JournalLength => true,
-            RecordKind | RecordPlace | TextTooLong | WrongTag => true,
+            RecordKind | RecordPlace | TextTooLong | WrongTag | SumsLength => true,
             Unknown(_) => false,\n",
     "_ => false,\n" not "",
     "}
