@@ -3,21 +3,25 @@
 
 use std::fmt;
 
-use armfile::{Refusal, StateBytes, STATE_BYTES};
+use armfile::{ffi, Part, Refusal, StateBytes, BLOCK_BYTES, STATE_BYTES};
 use reference::journal::Edit;
-use reference::{calls, State};
+use reference::{calls, join, State};
 
 use crate::hex;
 
-/// A call made by the functions of a module and the methods of its state: the
-/// wrapper and the second implementation give them the same names.
+/// A call made by the functions of a module, by a join and by the methods of a
+/// state: but for the join, the wrapper and the second implementation give them
+/// the same names.
 macro_rules! made {
-    ($call:expr, $module:ident, $state:ty, $held:ident, $after:ident) => {{
+    ($call:expr, $module:ident, $join:path, $state:ty, $held:ident, $after:ident) => {{
         let out = &mut $after.out;
         match $call {
             Call::Encrypt { key, block } => $module::encrypt(key, block, out),
             Call::Multiply { a, b } => $module::multiply(a, b, out),
             Call::Ghash { h, a, c } => $module::ghash(h, a, c, out),
+            Call::Join { h, sums, lengths } => {
+                $join(h, sums, lengths).map(|whole| ($after.sum, $after.n) = whole)
+            }
             Call::Gmac { key, nonce, a } => $module::gmac(key, nonce, a, out),
             Call::GcmEncrypt { message: m } => {
                 $module::gcm_encrypt(&m.key, &m.nonce, &m.aad, &m.text, out, &mut $after.tag)
@@ -55,7 +59,7 @@ macro_rules! made {
     }};
 }
 
-/// A count or an offset that no call has written yet.
+/// A count, an offset or a length that no call has written yet.
 pub const UNWRITTEN: u64 = 0xeeee_eeee_eeee_eeee;
 
 /// A verdict that no check has written yet.
@@ -86,6 +90,11 @@ pub enum Call {
         h: Vec<u8>,
         a: Vec<u8>,
         c: Vec<u8>,
+    },
+    Join {
+        h: Vec<u8>,
+        sums: Vec<u8>,
+        lengths: Vec<u64>,
     },
     Gmac {
         key: Vec<u8>,
@@ -159,8 +168,8 @@ impl Message {
 }
 
 /// All that calls are lent for writing: the state, the output or slip, the tag
-/// of an encryption, the count, the offset and the verdict. A call is lent some
-/// of them, and must leave the others.
+/// of an encryption, the count, the offset, the verdict, and the sum and the
+/// length of a join. A call is lent some of them, and must leave the others.
 #[derive(Clone, PartialEq, Eq)]
 pub struct Lent {
     pub state: StateBytes,
@@ -169,6 +178,8 @@ pub struct Lent {
     pub count: u64,
     pub offset: u64,
     pub verdict: u8,
+    pub sum: [u8; BLOCK_BYTES],
+    pub n: u64,
 }
 
 /// An answer, 0 or a refusal number, and what was lent as it is afterwards.
@@ -193,6 +204,10 @@ impl Call {
             Call::Ghash { h, a, c } => {
                 let inputs = vec![("h", &h[..]), ("a", a), ("c", c)];
                 ("ghash", inputs, vec![])
+            }
+            Call::Join { h, sums, lengths } => {
+                let numbers = lengths.iter().map(|&length| ("length", length));
+                ("join", vec![("h", h), ("sums", sums)], numbers.collect())
             }
             Call::Gmac { key, nonce, a } => {
                 let inputs = vec![("key", &key[..]), ("nonce", nonce), ("a", a)];
@@ -259,7 +274,7 @@ impl Call {
     pub fn by_wrapper(&self, before: &Lent) -> Outcome {
         let mut after = before.clone();
         let mut held = armfile::State::from_bytes(before.state);
-        let answer = made!(self, armfile, armfile::State, held, after);
+        let answer = made!(self, armfile, wrapped_join, armfile::State, held, after);
         after.state = *held.as_bytes();
         (answer.map_or_else(Refusal::number, |()| 0), after)
     }
@@ -269,13 +284,26 @@ impl Call {
     pub fn by_reference(&self, before: &Lent) -> Outcome {
         let mut after = before.clone();
         let mut held = State::from_state_bytes(&before.state);
-        let answer = made!(self, calls, State, held, after);
+        let answer = made!(self, calls, join::join, State, held, after);
         after.state = held.state_bytes();
         match answer {
             Err(number) if !matches!(self, Call::Replay { .. }) => (number, before.clone()),
             _ => (answer.err().unwrap_or(0), after),
         }
     }
+}
+
+/// A join by the wrapper, which takes each sum beside its length. Where they are
+/// not so many, the function beneath it is called, and has to refuse.
+fn wrapped_join(h: &[u8], sums: &[u8], lengths: &[u64]) -> Result<Part, Refusal> {
+    if sums.len() != BLOCK_BYTES * lengths.len() {
+        let answer = ffi::join(h, sums, lengths, &mut [0; BLOCK_BYTES], &mut 0);
+        return Err(Refusal::Unknown(answer));
+    }
+    let blocks = sums.chunks(BLOCK_BYTES);
+    let sums = blocks.map(|sum| sum.try_into().expect("16 bytes"));
+    let parts: Vec<Part> = sums.zip(lengths.iter().copied()).collect();
+    armfile::join(h, &parts)
 }
 
 impl fmt::Display for Call {
@@ -302,6 +330,8 @@ impl Lent {
             count: UNWRITTEN,
             offset: UNWRITTEN,
             verdict: UNJUDGED,
+            sum: [0xee; BLOCK_BYTES],
+            n: UNWRITTEN,
         }
     }
 
@@ -321,10 +351,11 @@ impl fmt::Display for Lent {
     fn fmt(&self, f: &mut fmt::Formatter) -> fmt::Result {
         let (state, out, tag) = (hex(&self.state), shown(&self.out), hex(&self.tag));
         let (count, offset, verdict) = (self.count, self.offset, self.verdict);
+        let (sum, n) = (hex(&self.sum), self.n);
         write!(
             f,
             "state {state}, out '{out}', tag '{tag}', count {count}, offset {offset}, \
-             verdict {verdict}"
+             verdict {verdict}, sum {sum}, n {n}"
         )
     }
 }

@@ -9,6 +9,7 @@ use std::sync::Mutex;
 use std::time::Instant;
 
 use reference::random::Random;
+use reference::State;
 
 use crate::call::{Call, Lent};
 use crate::edge::report_faults;
@@ -18,11 +19,11 @@ use crate::say;
 /// A part of the comparison: its name, how many cases it has, and a case.
 pub type Part = (&'static str, u64, fn(&mut Case));
 
-/// How many calls were answered by each number, from 0 to 14, and how many
+/// How many calls were answered by each number, from 0 to 15, and how many
 /// checks came to each verdict, from 0 to 3.
 #[derive(Clone, Copy, Default)]
 pub struct Tally {
-    answers: [u64; 15],
+    answers: [u64; 16],
     verdicts: [u64; 4],
 }
 
@@ -135,12 +136,20 @@ impl Case {
 /// refuse no state, so any that a call has left will do.
 fn fields_are_read(lent: &Lent) {
     let held = armfile::State::from_bytes(lent.state);
-    let read = (held.length(), held.arm(), held.last());
+    let read = (
+        held.length(),
+        held.arm(),
+        held.last(),
+        held.sum(),
+        held.hash_key(),
+    );
     let by_library = fields(&lent.state).unwrap_or_else(|fault| panic!("the library {fault}"));
-    let fields = lent.fields();
-    let expected = (fields.n, fields.arm, fields.last);
-    assert_eq!(read, expected, "length, arm and last used number");
-    assert_eq!(by_library, expected, "length, arm and last used number");
+    let State {
+        n, arm, last, s, h, ..
+    } = lent.fields();
+    let expected = (n, arm, last, s, h);
+    assert_eq!(read, expected, "length, arm, last, sum and hash key");
+    assert_eq!(by_library, expected, "length, arm, last, sum and hash key");
     assert_eq!(held.as_bytes(), &lent.state, "the state that was only read");
 }
 
@@ -221,7 +230,7 @@ pub fn run(parts: &[Part], least: u64) {
     }
     let (calls, seconds) = (total.calls(), begin.elapsed().as_secs_f64());
     let Tally { answers, verdicts } = total;
-    say(&format!("calls by their answers, 0 to 14: {answers:?}"));
+    say(&format!("calls by their answers, 0 to 15: {answers:?}"));
     say(&format!("checks by their verdicts, 0 to 3: {verdicts:?}"));
     say(&format!(
         "{calls} calls compared with the second implementation, in {seconds:.1} s"

@@ -7,7 +7,7 @@
 use std::cell::RefCell;
 
 use armfile::ffi::c;
-use armfile::StateBytes;
+use armfile::{StateBytes, BLOCK_BYTES};
 
 use crate::call::{Call, Lent, Outcome};
 use crate::edge::Edge;
@@ -24,22 +24,28 @@ pub enum Stand {
 }
 
 impl Stand {
-    /// How many canaries are behind the buffer with this index. The first two
-    /// are numbers, which are aligned.
+    /// How many canaries are behind the buffer with this index. The first three
+    /// and the lengths hold numbers, which are aligned.
     fn behind(self, index: usize) -> usize {
         match self {
             Stand::AtThePage => 0,
-            Stand::AmongCanaries(_) if index < 2 => WIDTH,
+            Stand::AmongCanaries(_) if index < 3 || index == LENGTHS => WIDTH,
             Stand::AmongCanaries(lead) => WIDTH + (lead + 5 * index) % 16,
         }
     }
 }
 
-/// How many buffers may be written: count, offset, state, output, tag and
-/// verdict, in this order. A call's inputs follow them.
-const WRITTEN: usize = 6;
+/// How many buffers may be written: count, offset, n, state, output, tag,
+/// verdict and sum, in this order. What is only read follows them.
+const WRITTEN: usize = 8;
 
-/// The most inputs of a call.
+/// The lengths of a join, of which every other call has none.
+const LENGTHS: usize = WRITTEN;
+
+/// Where a call's other inputs begin.
+const OTHERS: usize = LENGTHS + 1;
+
+/// The most of those.
 const INPUTS: usize = 5;
 
 /// What every buffer has room for at first.
@@ -48,7 +54,7 @@ const ROOM: usize = 1 << 16;
 thread_local! {
     /// The memory that is lent, a piece for each buffer. Every call uses it
     /// again.
-    static EDGES: RefCell<[Edge; WRITTEN + INPUTS]> =
+    static EDGES: RefCell<[Edge; OTHERS + INPUTS]> =
         RefCell::new(std::array::from_fn(|_| Edge::new(ROOM)));
 }
 
@@ -57,14 +63,18 @@ impl Call {
     /// and inputs afterwards.
     pub fn by_library(&self, before: &Lent, stand: Stand) -> Result<Outcome, String> {
         let (_, inputs, _) = self.parts();
-        let [count, offset] = [before.count, before.offset].map(u64::to_ne_bytes);
+        let [count, offset, n] = [before.count, before.offset, before.n].map(u64::to_ne_bytes);
+        let lengths = self.lengths();
         let mut lent: Vec<(&'static str, &[u8])> = vec![
             ("count", &count),
             ("offset", &offset),
+            ("n", &n),
             ("state", &before.state),
             ("out", &before.out),
             ("tag", &before.tag),
             ("verdict", std::slice::from_ref(&before.verdict)),
+            ("sum", &before.sum),
+            ("lengths", &lengths),
         ];
         lent.extend(inputs);
         EDGES.with_borrow_mut(|edges| {
@@ -80,24 +90,36 @@ impl Call {
         })
     }
 
+    /// The bytes of a join's lengths.
+    fn lengths(&self) -> Vec<u8> {
+        match self {
+            Call::Join { lengths, .. } => lengths.iter().flat_map(|n| n.to_ne_bytes()).collect(),
+            _ => Vec::new(),
+        }
+    }
+
     /// The library's answer to the call on these buffers, pointer and length of
-    /// each, inputs in the order of `parts`.
+    /// each, the other inputs in the order of `parts`.
     unsafe fn answered(&self, lent: &[(*mut u8, usize)]) -> u64 {
-        let [count, offset] = [lent[0].0, lent[1].0].map(<*mut u8>::cast::<u64>);
-        let [(state, _), (out, room), (verdict, _)] = [2, 3, 5].map(|i| lent[i]);
-        let at = |i: usize| lent[WRITTEN + i].0.cast_const();
-        let len = |i: usize| lent[WRITTEN + i].1;
+        let [count, offset, n] = [0, 1, 2].map(|i| lent[i].0.cast::<u64>());
+        let [(state, _), (out, room), (verdict, _), (sum, _)] = [3, 4, 6, 7].map(|i| lent[i]);
+        let at = |i: usize| lent[OTHERS + i].0.cast_const();
+        let len = |i: usize| lent[OTHERS + i].1;
         match self {
             Call::Encrypt { .. } => c::armfile_encrypt(at(0), len(0), at(1), len(1), out, room),
             Call::Multiply { .. } => c::armfile_multiply(at(0), len(0), at(1), len(1), out, room),
             Call::Ghash { .. } => {
                 c::armfile_ghash(at(0), len(0), at(1), len(1), at(2), len(2), out, room)
             }
+            Call::Join { lengths, .. } => {
+                let (first, count) = (lent[LENGTHS].0.cast(), lengths.len());
+                c::armfile_join(at(0), len(0), at(1), len(1), first, count, sum, n)
+            }
             Call::Gmac { .. } => {
                 c::armfile_gmac(at(0), len(0), at(1), len(1), at(2), len(2), out, room)
             }
             Call::GcmEncrypt { .. } | Call::GcmDecrypt { .. } => {
-                gcm_answered([lent[3], lent[4]], &lent[WRITTEN..])
+                gcm_answered([lent[4], lent[5]], &lent[OTHERS..])
             }
             Call::Start {
                 arm, last, n, fill, ..
@@ -145,27 +167,48 @@ fn left(guarded: &mut [Guarded], inputs: &[(&'static str, &[u8])]) -> Result<Len
     Ok(Lent {
         count: number(&mut written[0])?,
         offset: number(&mut written[1])?,
-        state: written[2].after()?.try_into().expect("84 bytes"),
-        out: written[3].after()?.to_vec(),
-        tag: written[4].after()?.to_vec(),
-        verdict: written[5].after()?[0],
+        n: number(&mut written[2])?,
+        state: written[3].after()?.try_into().expect("84 bytes"),
+        out: written[4].after()?.to_vec(),
+        tag: written[5].after()?.to_vec(),
+        verdict: written[6].after()?[0],
+        sum: written[7].after()?.try_into().expect("16 bytes"),
     })
 }
 
-/// The length, the arm and the last used number of a state, which stands at the
-/// page, by the calls that read them; or what is wrong with it afterwards.
-pub fn fields(state: &StateBytes) -> Result<(u64, u32, u64), String> {
-    EDGES.with_borrow_mut(|edges| {
-        let mut guarded = Guarded::new("state", &mut edges[0], state, 0);
-        let (lent, _) = guarded.lent();
-        // SAFETY: the pointer is of 84 bytes.
-        let read = unsafe {
+/// What a state holds, as the calls that read it tell: length, arm, last used
+/// number, sum and hash key.
+pub type Fields = (u64, u32, u64, [u8; BLOCK_BYTES], [u8; BLOCK_BYTES]);
+
+/// The fields of a state, which stands at the page, as do the blocks that are
+/// written; or what is wrong with it or around them afterwards.
+pub fn fields(state: &StateBytes) -> Result<Fields, String> {
+    EDGES.with_borrow_mut(|[first, second, third, ..]| {
+        let mut guarded = Guarded::new("state", first, state, 0);
+        // Before the calls no byte of the blocks is what it must become.
+        let unlike = state.map(|byte| !byte);
+        let mut sum = Guarded::new("sum", second, &unlike[48..64], 0);
+        let mut hash_key = Guarded::new("hash key", third, &unlike[16..32], 0);
+        let [lent, to_sum, to_hash_key] =
+            [&mut guarded, &mut sum, &mut hash_key].map(|guarded| guarded.lent().0);
+        // SAFETY: the pointers are of 84 bytes and of twice 16 bytes.
+        let (length, arm, last) = unsafe {
+            c::armfile_sum(lent, to_sum);
+            c::armfile_hash_key(lent, to_hash_key);
             (
                 c::armfile_length(lent),
                 c::armfile_arm(lent),
                 c::armfile_last(lent),
             )
         };
-        guarded.unaltered(state).map(|()| read)
+        guarded.unaltered(state)?;
+        let block = |bytes: &[u8]| bytes.try_into().expect("16 bytes");
+        Ok((
+            length,
+            arm,
+            last,
+            block(sum.after()?),
+            block(hash_key.after()?),
+        ))
     })
 }

@@ -12,6 +12,7 @@ use armfile::ffi::c;
 use armfile::{MAX_BYTES, MAX_JOURNAL_BYTES, MAX_TEXT_BYTES, SLIP_BYTES};
 use compare::edge::Edge;
 use reference::calls::{block_refusal, gcm_refusal, ghash_refusal, gmac_refusal};
+use reference::join;
 use reference::journal::{
     replay_refusal, Edit, Head, APPEND, CHANGE, CUT_TAIL, DROP_FRONT, PREPEND,
 };
@@ -41,6 +42,19 @@ const LIMIT: usize = MAX_BYTES as usize;
 /// them.
 const SIZES: [usize; 5] = [15, 16, 17, (1 << 32) + 16, (1 << 61) + 16];
 
+/// How many lengths of parts: true ones, and claimed ones.
+const COUNTS: [usize; 9] = [
+    0,
+    1,
+    2,
+    4,
+    9,
+    (1 << 28) + 1,
+    (1 << 32) + 2,
+    1 << 57,
+    (1 << 59) - 1,
+];
+
 /// The longest text to encrypt or to decrypt.
 const TEXT_LIMIT: usize = MAX_TEXT_BYTES as usize;
 
@@ -59,6 +73,9 @@ const FILES: [u64; 9] = [
 
 /// The longest length for which there are bytes.
 const TRUE: usize = 64;
+
+/// What those bytes are.
+const FILL: u8 = 0x5e;
 
 /// The C library's own, which the standard library links.
 mod system {
@@ -79,7 +96,7 @@ fn forbidden() -> *mut u8 {
     static EDGE: OnceLock<Edge> = OnceLock::new();
     let filled = || {
         let mut edge = Edge::new(TRUE);
-        edge.last(TRUE).fill(0x5e);
+        edge.last(TRUE).fill(FILL);
         edge
     };
     EDGE.get_or_init(filled).end()
@@ -258,6 +275,44 @@ fn hashes() {
                 }
             }
         }
+    }
+}
+
+/// A join of H and of sums of these sizes, and of so many lengths. Those that are
+/// true are of a byte that makes each of them broken, and too long.
+fn join_of(h: usize, sums: usize, count: usize) {
+    let claimed = 8 * count > TRUE;
+    let there = if claimed { 0 } else { count };
+    let lengths = [u64::from_ne_bytes([FILL; 8]); TRUE / 8];
+    let expected = join::size_refusal(wide(h), wide(sums), wide(count))
+        .and_then(|()| join::length_refusal(&lengths[..there]));
+    let name = format!("join under {h} of {sums}, {count} lengths");
+    expect(&name, expected, claimed, &Lent::of(0), |lent| {
+        let (k, s, first) = (input(h), input(sums), input(8 * count).cast());
+        let (sum, n) = (lent.out.as_mut_ptr(), &mut lent.count);
+        // SAFETY: what is claimed is on the forbidden page.
+        unsafe { c::armfile_join(k, h, s, sums, first, count, sum, n) }
+    });
+}
+
+/// As many sums as lengths, and more or less of them, by few bytes or by bits
+/// that a shorter number would lose.
+#[test]
+fn joins() {
+    for count in COUNTS {
+        let fit = 16 * count;
+        let more = [1, 15, 16, 17].map(|by| fit + by);
+        let less = [1, 15, 16, 17].map(|by| fit.wrapping_sub(by));
+        let bits = [32, 36, 60, 61, 62].map(|bit| fit ^ (1 << bit));
+        let sizes = [&more[..], &less, &bits, &[0, count, fit % (1 << 32), fit]].concat();
+        for sums in sizes.into_iter().filter(|&sums| sums < 1 << 63) {
+            for h in SIZES {
+                join_of(h, sums, count);
+            }
+        }
+    }
+    for sums in [0, 16, (1 << 63) - 16] {
+        join_of(16, sums, (1 << 60) - 1);
     }
 }
 

@@ -5,12 +5,12 @@
 #![forbid(unsafe_code)]
 
 use armfile::Refusal::JournalLength;
-use armfile::{Replayed, State};
+use armfile::{ffi, Part, Replayed, State};
 use reference::field::{add, multiply, power, seek_steps, Block, ZERO};
 use reference::ghash::{block_count, blocks_of, hash_key, pair_block};
 use reference::journal::Edit;
 use reference::random::Random;
-use reference::{aes, gcm, state};
+use reference::{aes, gcm, join, state};
 
 /// Bytes that are zero but for the first block and the last, which is short.
 fn sparse(random: &mut Random, n: usize) -> Vec<u8> {
@@ -68,6 +68,7 @@ fn counted(n: usize) {
     };
     assert_eq!(read.as_bytes(), &expected.state_bytes(), "a file");
     replayed(&key, &bytes, &expected);
+    joined(&mut random, n / 16);
 }
 
 /// Such bytes as associated data and as ciphertext, under a nonce of 12 bytes:
@@ -101,6 +102,27 @@ fn replayed(key: &[u8], bytes: &[u8], expected: &state::State) {
     assert_eq!(held.as_bytes(), &expected.state_bytes(), "a journal");
 }
 
+/// So many parts of one block each, their sums zero but for the first and the
+/// last; and their whole, in which the first weighs H to all blocks after it.
+fn sparse_parts(random: &mut Random, h: &Block, count: usize) -> (Vec<Part>, Part) {
+    let mut parts = vec![(ZERO, 16); count];
+    let [first, last] = [random.block(), random.block()];
+    (parts[0].0, parts[count - 1].0) = (first, last);
+    let weighed = multiply(&first, &power(h, count as u128 - 1));
+    (parts, (add(&weighed, &last), 16 * count as u64))
+}
+
+/// So many parts, all at once and as the wrapper joins them.
+fn joined(random: &mut Random, count: usize) {
+    let h = random.block();
+    let (parts, whole) = sparse_parts(random, &h, count);
+    let (sums, lengths) = join::lists(&parts);
+    let (mut sum, mut n) = (ZERO, 0);
+    assert_eq!(ffi::join(&h, &sums, &lengths, &mut sum, &mut n), 0);
+    assert_eq!((sum, n), whole, "all parts at once");
+    assert_eq!(armfile::join(&h, &parts), Ok(whole), "parts in groups");
+}
+
 /// What is counted here in two powers is what the second implementation counts.
 #[test]
 fn short_inputs() {
@@ -111,6 +133,9 @@ fn short_inputs() {
         for (a, c) in [(&bytes[..], &[][..]), (&[], &bytes), (&bytes, &more)] {
             assert_eq!(hash(&h, a, c), reference::ghash::ghash(&h, a, c));
         }
+        let (parts, whole) = sparse_parts(&mut random, &h, n);
+        let (sums, lengths) = join::lists(&parts);
+        assert_eq!(join::join(&h, &sums, &lengths), Ok(whole));
     }
     counted(4097);
 }

@@ -34,7 +34,7 @@ fn number(text: &str) -> u64 {
 
 /// The refusals, as the header, its wrapper and the second implementation have
 /// them.
-const REFUSALS: [(&str, Refusal, u64); 14] = [
+const REFUSALS: [(&str, Refusal, u64); 15] = [
     (
         "KEY_OR_BLOCK_LENGTH",
         KeyOrBlockLength,
@@ -53,6 +53,7 @@ const REFUSALS: [(&str, Refusal, u64); 14] = [
     ("RECORD_PLACE", RecordPlace, refusal::BAD_PLACE),
     ("TEXT_TOO_LONG", TextTooLong, refusal::TEXT_TOO_LONG),
     ("WRONG_TAG", WrongTag, refusal::WRONG_TAG),
+    ("SUMS_LENGTH", SumsLength, refusal::BAD_SUMS),
 ];
 
 /// So are these the verdicts.

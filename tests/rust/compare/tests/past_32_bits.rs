@@ -1,7 +1,8 @@
 //! Inputs of more bytes than 32 bits count, beside the second implementation,
 //! which takes every byte of them: a file that is read, a journal and a text to
-//! decrypt. They end at a page that may not be touched. By hand, in some minutes
-//! and with 12 GiB of memory:
+//! decrypt; and the sums of a join, of which it takes those that are not zero.
+//! They end at a page that may not be touched. By hand, in some minutes and with
+//! 12 GiB of memory:
 //!
 //!     cargo test --release --offline --manifest-path tests/rust/Cargo.toml \
 //!         -p compare --test past_32_bits -- --ignored --nocapture --test-threads 1
@@ -13,7 +14,7 @@ use std::time::Instant;
 use compare::edge::Edge;
 use reference::journal::{Head, APPEND, CHANGE, CUT_TAIL, DROP_FRONT, HEAD_BYTES, PREPEND};
 use reference::random::Random;
-use reference::{gcm, ghash, State};
+use reference::{gcm, ghash, join, State};
 
 /// More bytes than 32 bits count, and no whole number of blocks.
 const LONG: usize = (1 << 32) + 1_021;
@@ -120,6 +121,29 @@ fn decrypt(n: usize) {
     assert!(out == plain, "another text");
 }
 
+/// A join of n bytes of sums. All but three parts have no bytes and a sum of
+/// zero, and weigh nothing: without them the whole is the same.
+fn join(n: usize) {
+    let count = n / 16;
+    let (mut random, mut edge) = (Random::for_test(44), Edge::new(n));
+    let (h, sums) = (random.block(), edge.last(16 * count));
+    let mut lengths = vec![0; count];
+    let (mut few_sums, mut few_lengths) = (Vec::new(), Vec::new());
+    for place in [0, count - 60, count - 1] {
+        let (sum, length) = (random.block(), 16 * random.below(1 << 50));
+        sums[16 * place..][..16].copy_from_slice(&sum);
+        lengths[place] = length;
+        few_sums.extend(sum);
+        few_lengths.push(length);
+    }
+    let mut whole = ([0; 16], 0);
+    let answer = timed("joined by the library", || {
+        armfile::ffi::join(&h, sums, &lengths, &mut whole.0, &mut whole.1)
+    });
+    assert_eq!(answer, 0);
+    assert_eq!(join::join(&h, &few_sums, &few_lengths), Ok(whole));
+}
+
 /// What is done by hand below is done here with less.
 #[test]
 fn short_inputs() {
@@ -128,6 +152,7 @@ fn short_inputs() {
         decrypt(n);
     }
     replay(20_000);
+    join(100_003);
 }
 
 #[test]
@@ -146,4 +171,10 @@ fn a_journal_of_more_than_2_32_bytes() {
 #[ignore = "takes minutes and 12 GiB of memory"]
 fn a_text_of_more_than_2_32_bytes() {
     decrypt(LONG);
+}
+
+#[test]
+#[ignore = "takes half a minute"]
+fn sums_of_more_than_2_32_bytes() {
+    join(LONG);
 }

@@ -8,6 +8,7 @@ mod blocks;
 mod choose;
 mod edits;
 mod gcm;
+mod joins;
 mod journals;
 mod lists;
 mod long;
@@ -80,6 +81,18 @@ const PARTS: &[Part] = &[
     ("slips of every number", 48, slips::every_number),
     ("lists of a card's week", 300, lists::a_week),
     ("lists of every verdict", 1, lists::every_verdict),
+    ("joins of few parts", 420, joins::of_few_parts),
+    ("joins of every count", 160, joins::of_every_count),
+    ("joins of many parts", 4, joins::of_many_parts),
+    ("joins of joins", 210, joins::of_joins),
+    ("joins of a file", 700, joins::of_a_file),
+    ("joins of blank files", 210, joins::of_blank_files),
+    ("joins of powers of two", 58, joins::of_powers_of_two),
+    ("joins under a sum", 20, joins::under_a_sum),
+    ("joins of single bits", 130, joins::of_plain_sums),
+    ("joins of long parts", 540, joins::of_long_parts),
+    ("joins, wrong lengths", 13, joins::of_wrong_lengths),
+    ("joins, sets of causes", 16, joins::of_sets_of_causes),
 ];
 
 fn main() {
