@@ -5,10 +5,11 @@
  * it chose is followed on as undefined. How long an instruction takes is not seen here: integer multiplications, by which
  * blocks are multiplied, are taken to last the same whatever they multiply.
  *
- * Secret: keys, H, I, S, blocks, the bytes of files, in a journal too, and GCM's texts, associated data and ciphertexts. Public: lengths,
- * places, a blank file's fill byte, arm and seal numbers, nonces, slips, the heads of a journal's records, whose kind, p and l decide what is
- * done, and every answer, count, offset and verdict. Answers, counts and offsets must come out defined by themselves, but for a decryption's.
- * A tag is published by the call that makes it, and is declared public after that call, not before.
+ * Secret: keys, H, I, S, of parts too, blocks, the bytes of files, in a journal too, and GCM's texts, associated data and ciphertexts. Public:
+ * lengths, of parts too, places, a blank file's fill byte, arm and seal numbers, nonces, slips, the heads of a journal's records, whose kind, p
+ * and l decide what is done, and every answer, count, offset and verdict. Answers, counts, offsets and the length of joined parts must come out
+ * defined by themselves, but for a decryption's answer. A tag is published by the call that makes it, and is declared public after that call,
+ * not before.
  *
  * Whether a slip's tag fits is found inside check, and is public since the verdict tells it. So check may jump on that, and on nothing less:
  * each check that comes to compare tags makes at most one report, the jump, and its verdict then comes out defined, since by that jump and the
@@ -18,7 +19,7 @@
  *
  * Each call is made on plain data too, and must give the same bytes.
  *
- * ct field    multiply, GHASH, a state's fields, the five edits and replay, which use no cipher
+ * ct field    multiply, GHASH, join, a state's fields, the five edits and replay, which use no cipher
  * ct cipher   encrypt, GMAC, GCM encryption, start, read and seal
  * ct check    check
  * ct decrypt  GCM decryption
@@ -41,6 +42,7 @@
 #define LONG_WHOLE (LONG / 16 * 16) /* whole blocks, where an edit takes only these */
 #define HEAD 12 /* a record's: kind, p and l */
 #define RECORDS 6
+#define PARTS 1000 /* the most that are joined */
 
 static const size_t lengths[] = {0, 1, 15, 16, 17, 32, 33, 64, 100};
 #define LENGTHS (sizeof lengths / sizeof lengths[0])
@@ -165,6 +167,52 @@ static void on_ghash(void) {
         for (size_t j = 0; j < WHOLES; j++)
             one_ghash(wholes[i], wholes[j]);
     one_ghash(LONG, LONG);
+}
+
+/* A join of parts of these lengths: the sum is secret where there is a part, and the length is not. Then refused ones: with a hash key of 15 bytes,
+ * with a sum too many, with a first part that is not of whole blocks, and with one that is too long. */
+static void one_join(uint64_t *parts, size_t count) {
+    uint8_t h[16], sums[16 * PARTS + 16], plain[16], sum[16];
+    uint64_t n, plain_n;
+    fill(h, 16);
+    fill(sums, 16 * count);
+    answered(armfile_join(h, 16, sums, 16 * count, parts, count, plain, &plain_n), 0);
+    hide(h, 16);
+    hide(sums, sizeof sums);
+    answered(armfile_join(h, 16, sums, 16 * count, parts, count, sum, &n), 0);
+    must_be_public(&n, sizeof n, "the length of joined parts depends on a secret");
+    if (count > 0)
+        must_be_secret(sum, 16, "no secret in the sum of joined parts");
+    else
+        must_be_public(sum, 16, "the sum of nothing depends on a secret");
+    reveal(sum, 16);
+    must_be_same(sum, plain, 16, "another sum");
+    must_be_same(&n, &plain_n, sizeof n, "another length");
+    answered(armfile_join(h, 15, sums, 16 * count, parts, count, sum, &n), 1);
+    answered(armfile_join(h, 16, sums, 16 * count + 16, parts, count, sum, &n), 15);
+    if (count > 1) {
+        parts[0] += 8;
+        answered(armfile_join(h, 16, sums, 16 * count, parts, count, sum, &n), 5);
+        parts[0] = ARMFILE_MAX_BYTES + 1;
+        answered(armfile_join(h, 16, sums, 16 * count, parts, count, sum, &n), 2);
+    }
+    must_be_public(sum, 16, "a refused call has written");
+    must_be_same(sum, plain, 16, "a refused call has written");
+    must_be_same(&n, &plain_n, sizeof n, "a refused call has written");
+}
+
+/* Parts of no bytes, of one block, of few and of many; the last of any length. The digits of a part's blocks say which products are made. */
+static void on_join(void) {
+    const size_t counts[] = {0, 1, 2, 6, PARTS};
+    const uint64_t whole[] = {48, 0, 16, UINT64_C(1) << 20, (UINT64_C(1) << 36) + 16, 4096, (UINT64_C(1) << 40) - 16};
+    const uint64_t last[] = {0, 1, 16, 17, (UINT64_C(1) << 20) + 5, UINT64_C(1) << 60};
+    for (size_t i = 0; i < sizeof counts / sizeof counts[0]; i++)
+        for (size_t j = 0; j < sizeof last / sizeof last[0]; j++) {
+            uint64_t parts[PARTS];
+            for (size_t k = 0; k < counts[i]; k++)
+                parts[k] = k + 1 < counts[i] ? whole[(k + j) % 7] : last[j];
+            one_join(parts, counts[i]);
+        }
 }
 
 /* An edit by number, with its bytes given twice to a change. */
@@ -420,14 +468,25 @@ static void on_read(void) {
     one_read(LONG);
 }
 
-/* What a state says of itself is public, whatever the rest of it is. */
+/* What a state says of itself is public, whatever the rest of it is; and its sum and H, which are copied, are secret. */
 static void on_fields(void) {
-    uint8_t state[STATE];
+    uint8_t state[STATE], plain[STATE], sum[16], h[16];
     any_state(state, 40);
+    memcpy(plain, state, STATE);
     hide(state, SECRET_STATE);
     answered(armfile_length(state), 40);
     answered(armfile_arm(state), 7);
     answered(armfile_last(state), 41);
+    hide(state, STATE);
+    armfile_sum(state, sum);
+    armfile_hash_key(state, h);
+    calls += 2;
+    must_be_secret(sum, 16, "no secret in a sum");
+    must_be_secret(h, 16, "no secret in a hash key");
+    reveal(sum, 16);
+    reveal(h, 16);
+    must_be_same(sum, plain + 48, 16, "another sum");
+    must_be_same(h, plain + 16, 16, "another hash key");
 }
 
 static void on_seal(void) {
@@ -596,6 +655,7 @@ int main(int argc, char **argv) {
     if (strcmp(part, "field") == 0) {
         on_blocks(armfile_multiply);
         on_ghash();
+        on_join();
         on_fields();
         on_edits();
         on_replay();
