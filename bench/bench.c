@@ -19,6 +19,7 @@
  *  - refusal: armfile_gcm_decrypt where the tag does not fit, which does all that an encryption does, but for the cipher's blocks of the text.
  *  - change 1, change 4096: armfile_change of that many bytes at place 0 of a file of n zero bytes. start (of n zero bytes too), read, seal,
  *    check: the calls.
+ *  - join: armfile_join of the parts of 1 MiB that n bytes have. Most of their sums are of chance, since no part is read.
  *
  * BearSSL's counter mode and GCM work in place.
  *
@@ -55,6 +56,8 @@
 #define BATCH 200000
 #define CHECKED 1024 /* results are compared at all multiples of 16 up to this, and at the lengths that are timed */
 #define LONGEST ((size_t)16 << 20)
+#define PART ((size_t)1 << 20)
+#define PARTS 1000
 #define JOBS 512
 
 /*
@@ -78,6 +81,8 @@ enum { GHASH, GMAC, PRODUCT, BLOCK, COUNTER, ENCRYPT, DECRYPT, REFUSAL, OPS };
 
 static uint8_t state[ARMFILE_STATE_BYTES], sealed[ARMFILE_STATE_BYTES], slip[ARMFILE_SLIP_BYTES], verdict;
 static uint64_t refused, products; /* refused: whether any call was */
+static uint8_t part_h[16], sums[16 * PARTS];
+static uint64_t part_lengths[PARTS], total;
 
 static void own_ghash(void) { refused |= armfile_ghash(h, 16, text, given->n, text, 0, tag, 16); }
 static void own_gmac(void) { refused |= armfile_gmac(key, 16, nonce, 12, text, given->n, tag, 16); }
@@ -107,6 +112,12 @@ static void own_check(void)
 {
 	refused |= armfile_check(sealed, slip, sizeof slip, &verdict);
 	refused |= verdict != ARMFILE_CURRENT;
+}
+static void own_join(void)
+{
+	size_t parts = given->n / PART;
+
+	refused |= armfile_join(part_h, 16, sums, 16 * parts, part_lengths, parts, tag, &total);
 }
 
 /* ---- BearSSL */
@@ -451,11 +462,11 @@ static const struct { const char *name; const size_t *sizes; } ops[OPS] = {
 	[ENCRYPT] = {"encrypt", some}, [DECRYPT] = {"decrypt", some}, [REFUSAL] = {"refusal", some},
 };
 
-static const size_t first_page[] = {1 << 10, 0}, files[] = {1 << 10, 1 << 20, 0};
+static const size_t first_page[] = {1 << 10, 0}, files[] = {1 << 10, 1 << 20, 0}, joined[] = {PARTS * PART, 0};
 static const size_t lengths[] = {1 << 10, 1 << 15, 1 << 20, 1 << 25, 1 << 30, (size_t)1 << 35, (size_t)1 << 40, 0};
 static const struct { const char *name; call *run; const size_t *sizes; } own[] = {
 	{"change 1", own_change_1, lengths}, {"change 4096", own_change_4096, lengths + 1}, {"start", own_start, first_page},
-	{"read", own_read, files}, {"seal", own_seal, first_page}, {"check", own_check, first_page},
+	{"read", own_read, files}, {"seal", own_seal, first_page}, {"check", own_check, first_page}, {"join", own_join, joined},
 };
 #define OWN (sizeof own / sizeof own[0])
 
@@ -564,6 +575,28 @@ static void check_change(call *run, size_t bytes, size_t n)
 	agree(!refused && !memcmp(state, whole, sizeof state), "itself", "a change and the changed file", n);
 }
 
+/* The text's parts of 1 MiB, each read by itself and joined, have the sum and the length of the text. Behind their sums stand those of chance. */
+static void check_join(void)
+{
+	uint8_t sum[16];
+	static struct given g;
+
+	give(&g, LONGEST);
+	given = &g;
+	chance(sums, sizeof sums);
+	for (size_t i = 0; i < PARTS; i++)
+		part_lengths[i] = PART;
+	for (size_t i = 0; i < LONGEST / PART; i++) {
+		refused |= armfile_read(key, 16, 7, 0, text + i * PART, PART, state);
+		armfile_sum(state, sums + 16 * i);
+	}
+	refused |= armfile_read(key, 16, 7, 0, text, LONGEST, state);
+	armfile_hash_key(state, part_h);
+	armfile_sum(state, sum);
+	own_join();
+	agree(!refused && !memcmp(tag, sum, 16) && total == LONGEST, "itself", "joined parts and the whole", LONGEST);
+}
+
 /* ---- times */
 
 static struct job {
@@ -647,6 +680,7 @@ int main(int argc, char **argv)
 		if (*n >= 4096)
 			check_change(own_change_4096, 4096, *n);
 	}
+	check_join();
 	refused |= armfile_start(key, 16, 7, 0, 1 << 10, 0, sealed, &products);
 	list();
 	for (int round = 0; round < ROUNDS; round++)

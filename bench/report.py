@@ -13,6 +13,7 @@ from pathlib import Path
 OWN = "this library"
 SIZES = [16, 64, 1 << 10, 1 << 16, 1 << 24]
 FILES = [1 << 10, 1 << 20, 1 << 30, 1 << 40]
+JOINED = 1000 << 20  # in parts of 1 MiB
 HARDWARE = ["OpenSSL", "nettle", "libgcrypt", "mbedTLS"]  # peers that choose their path by themselves
 BEGIN, END = "<!-- recorded by bench/run --record: begin -->", "<!-- recorded by bench/run --record: end -->"
 NONE = "—"
@@ -158,6 +159,14 @@ def edits(run):
     return markdown(head, rows)
 
 
+def joins(run):
+    best = run.best("join", JOINED, OWN)
+    hashed, measured = again(run, JOINED)
+    row = [f"{grouped(JOINED >> 20)} of 1 MiB", duration(best), f"{100 * run.spread('join', JOINED, OWN):.0f} %",
+           duration(hashed) + ("" if measured else ", worked out"), grouped(hashed / best)]
+    return markdown(["parts", "join", "spread", "hashing them again", "by the join's"], [row])
+
+
 def calls(run):
     asked = [("start", 1 << 10, "start"), ("seal", 1 << 10, "seal"), ("check", 1 << 10, "check"), ("read of 1 KiB", 1 << 10, "read"),
              ("read of 1 MiB", 1 << 20, "read")]
@@ -181,6 +190,7 @@ def tables(runs, machine):
         ("GCM encryption; ratio to BearSSL aes_ct64 + ctmul64. Keys as for GMAC", side("encrypt", SIZES, "BearSSL aes_ct64 + ctmul64")),
         ("GCM decryption; ratio to BearSSL aes_ct64 + ctmul64. Keys as for GMAC", side("decrypt", SIZES, "BearSSL aes_ct64 + ctmul64")),
         ("One edit, at the front of the file, and hashing the file again", edits(runs[0])),
+        ("A join of parts, and hashing them again", joins(runs[0])),
         ("The file keeper's other calls", calls(runs[0])),
     ]
     return NOTE + "\n\n" + "\n".join(f"### {title}\n\n{text}\n" for title, text in parts)

@@ -9,10 +9,12 @@
 #define KIB ((size_t)1024)
 #define APPENDS 100
 #define RECORD (12 + 16) /* a record of 16 bytes */
+#define PARTS 1000
 
 static uint8_t key[ARMFILE_BLOCK_BYTES], file[1024 * KIB], tag[ARMFILE_BLOCK_BYTES], slip[ARMFILE_SLIP_BYTES], verdict;
 static uint8_t journal[APPENDS * RECORD], sent[1024 * KIB], text[KIB];
-static uint64_t count, offset;
+static uint8_t sums[PARTS * ARMFILE_BLOCK_BYTES]; /* made up: a join reads no part */
+static uint64_t lengths[PARTS], total, count, offset;
 
 static uint64_t now(void)
 {
@@ -54,6 +56,8 @@ int main(void)
 		journal[i] = 2 << 5; /* the kind: an append */
 		journal[i + 11] = 16;
 	}
+	for (size_t i = 0; i < PARTS; i++)
+		lengths[i] = 1024 * KIB;
 	COST("start of 0 bytes", TIMES, 0, armfile_start(key, sizeof key, 7, 0, 0, 0xff, state, &count));
 	COST("start of 1 GiB of FF", TIMES, 0, armfile_start(key, sizeof key, 7, 0, KIB << 20, 0xff, state, &count));
 	COST("read of 1 KiB", TIMES, 0, armfile_read(key, sizeof key, 7, 0, file, KIB, state));
@@ -73,5 +77,6 @@ int main(void)
 	COST("gcm_decrypt of 1 KiB", TIMES, 0, armfile_gcm_decrypt(key, sizeof key, key, 12, key, 0, sent, KIB, text, KIB, tag, sizeof tag));
 	COST("encrypt", TIMES, 0, armfile_encrypt(key, sizeof key, file, 16, tag, sizeof tag));
 	COST("multiply", TIMES, 0, armfile_multiply(key, sizeof key, file, 16, tag, sizeof tag));
+	COST("join of 1000 parts of 1 MiB", TIMES, 0, armfile_join(key, sizeof key, sums, sizeof sums, lengths, PARTS, tag, &total));
 	return 0;
 }

@@ -1,5 +1,5 @@
 /* A file's life with the library: begun on a blank card, edited, sealed, put away, taken out again and checked, an old card too; and sent
- * unread. */
+ * unread. Then a cell's file, which is kept in parts. */
 #include <stdio.h>
 #include <string.h>
 #include "armfile.h"
@@ -13,9 +13,20 @@ static const uint8_t head[] = "; arm 7, cell 3\n", line[] = "G1 X10 Y20 Z30\n", 
 static const uint8_t carrying_key[ARMFILE_BLOCK_BYTES] = { 16, 15, 14, 13, 12, 11, 10, 9, 8, 7, 6, 5, 4, 3, 2, 1 }; /* it seals nothing */
 static const uint8_t old[] = "X10", new_[] = "X12", other[] = "X15", left[] = "G1 X12 Y20 Z30\n";
 
+/* A cell's file and its parts, one a gripper: from each place to the next. All but the last part are of whole blocks. */
+#define PARTS 3
+static const uint8_t cell[] = "G1 X10 Y20 Z30 \nG1 X11 Y20 Z30 \nG1 X12 Y20 Z30 \nG1 X13 Y20 Z30\n";
+static const size_t places[PARTS + 1] = { 0, 32, 48, sizeof cell - 1 };
+
 /* What is put away: the state, which is secret, and the slip, which is not. */
 struct stored {
 	uint8_t state[ARMFILE_STATE_BYTES], slip[ARMFILE_SLIP_BYTES];
+};
+
+/* What a join of the cell's parts takes and gives. All of it is secret. */
+struct joined {
+	uint8_t state[ARMFILE_STATE_BYTES], h[ARMFILE_BLOCK_BYTES], sums[PARTS * ARMFILE_BLOCK_BYTES];
+	uint8_t sum[ARMFILE_BLOCK_BYTES], of_reader[ARMFILE_BLOCK_BYTES];
 };
 
 /* Overwrites the stack below its caller, where the library's calls leave keys and sums (armfile.h, WHAT TO WIPE). */
@@ -115,6 +126,37 @@ static int carry(void)
 		sizeof text, tag, sizeof tag) != ARMFILE_WRONG_TAG;
 }
 
+/* Whether two blocks differ, in a time that says nothing of where. */
+static int differ(const uint8_t *a, const uint8_t *b)
+{
+	uint8_t bits = 0;
+
+	for (size_t i = 0; i < ARMFILE_BLOCK_BYTES; i++)
+		bits |= a[i] ^ b[i];
+	return bits != 0;
+}
+
+/* Reads each part of the cell's file by itself and joins them. Sum and length must be those of one who reads the file whole. None of these states
+ * seals, so their last used number may be 0. */
+static int join(struct joined *j)
+{
+	uint64_t lengths[PARTS], n;
+
+	for (size_t i = 0; i < PARTS; i++) {
+		if (refused("read", armfile_read(key, sizeof key, ARM, 0, cell + places[i], places[i + 1] - places[i], j->state)))
+			return 1;
+		armfile_sum(j->state, j->sums + i * ARMFILE_BLOCK_BYTES);
+		lengths[i] = armfile_length(j->state);
+	}
+	armfile_hash_key(j->state, j->h); /* one key, one H: any part's */
+	if (refused("join", armfile_join(j->h, sizeof j->h, j->sums, sizeof j->sums, lengths, PARTS, j->sum, &n))
+	    || refused("read", armfile_read(key, sizeof key, ARM, 0, TEXT(cell), j->state)))
+		return 1;
+	armfile_sum(j->state, j->of_reader);
+	printf("%d parts, %u bytes\n", PARTS, (unsigned)n);
+	return n != armfile_length(j->state) || differ(j->sum, j->of_reader);
+}
+
 /* The file's life. The newest slip must be current by the state that was put away, and by that of one who reads the file whole. The reader is told the
  * last used number too: by 0 the slip would be ahead. */
 static int life(struct stored *kept, struct stored *back, uint8_t *reader)
@@ -136,12 +178,14 @@ static int life(struct stored *kept, struct stored *back, uint8_t *reader)
 int main(void)
 {
 	struct stored kept, back;
+	struct joined joined;
 	uint8_t reader[ARMFILE_STATE_BYTES];
-	int failed = life(&kept, &back, reader);
+	int failed = life(&kept, &back, reader) || join(&joined);
 
 	wipe(kept.state, sizeof kept.state);
 	wipe(back.state, sizeof back.state);
 	wipe(reader, sizeof reader);
+	wipe((uint8_t *)&joined, sizeof joined);
 	wipe_stack();
 	printf("%s\n", failed ? "failed" : "current");
 	return failed;
