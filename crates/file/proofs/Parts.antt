@@ -14,10 +14,12 @@ use Rattle.field.proofs.Joins.{parts-join}
 use Rattle.gcm.specs.Gcm.{hashKey, gmac, tagOf}
 use Rattle.gcm.proofs.TagLaws.{small-hash, tag-gmac}
 use Rattle.file.specs.declared.states.State.{State}
-use Rattle.file.specs.States.{stateOf, Reading, readFile}
-use Rattle.file.specs.Demands.{ReaderAgrees, Demand3}
+use Rattle.file.specs.States.{stateOf, Start, Reading, readFile}
+use Rattle.file.specs.Calls.{Call}
+use Rattle.file.specs.Runs.{fromStart}
+use Rattle.file.specs.Demands.{AcceptedStart, ReaderAgrees, Demand3}
 use Rattle.file.specs.Parts.{joinedStates, AllAgree, no-part, part-more, JoinOf, StatesJoin, readState, StatesJoinMet}
-use Rattle.file.proofs.Calls.{begun-read, read-accepts}
+use Rattle.file.proofs.Calls.{begun-start, begun-read, read-accepts}
 use Rattle.file.proofs.Demand3.{demand-3}
 
 -- ---- states that agree have the true sums and lengths
@@ -82,11 +84,21 @@ all-read key arm last (file ∷ files) k short =
     let both = length-append file (flatten files) in
     part-more r refl (read-agrees r (read-accepts r k (omega (arith, short, both)))) (all-read key arm last files k (omega (arith, short, both)))
 
+edited : (s : Start) → AcceptedStart s → (calls : List Call) → fromStart s calls .truth → (states : List State) (files : List (List ℕ))
+    → AllAgree (s .key) states files → AllAgree (s .key) (fromStart s calls .state ∷ states) (fromStart s calls .machine .bytes ∷ files)
+unfolding Demand3
+edited s a calls t states files all = part-more _ refl (demand-3 s a calls .reader t 0 0) all
+
 pub states-join-met : StatesJoinMet
-unfolding StatesJoin Demand3
+unfolding StatesJoin flatten
 states-join-met =
     record {
       read = all-read;
-      edited = λ s a calls t states files all. part-more _ refl (demand-3 s a calls .reader t 0 0) all;
+      edited = edited;
       joins = λ key arm last files k w short. states-join key (map (readState key arm last) files) files (all-read key arm last files k short) w short;
+      edited-joins = λ s a calls t arm last files w short.
+          let bytes = fromStart s calls .machine .bytes in
+          let states = map (readState (s .key) arm last) files in
+          let behind = all-read (s .key) arm last files (begun-start s (a .accepted) .fits) (omega (arith, short, length-append bytes (flatten files))) in
+          states-join (s .key) (fromStart s calls .state ∷ states) (bytes ∷ files) (edited s a calls t states files behind) w short;
     }

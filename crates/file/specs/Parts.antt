@@ -53,7 +53,7 @@ abbrev pub readState : (key : List ℕ) (arm last : ℕ) (file : List ℕ) → S
 readState key arm last file = readFile (record { key = key; arm = arm; last = last; file = file }) .state
 
 -- its hypotheses can be met: parts that are read agree, and so does one that an editor holds after any list of true calls. So the theorem says of any files
--- within the limits what their states join to; a hypothesis added to it would break this. Ours
+-- within the limits what their states join to, and of such an editor's with files behind it; a hypothesis added to it would break this. Ours
 pub record StatesJoinMet : Type 0 where
   pub read :
       (key : List ℕ) (arm last : ℕ) (files : List (List ℕ)) → keyFits key ≡ true → length (flatten files) ≤ maxBytes
@@ -64,3 +64,7 @@ pub record StatesJoinMet : Type 0 where
   pub joins :
       (key : List ℕ) (arm last : ℕ) (files : List (List ℕ)) → keyFits key ≡ true → Whole files → length (flatten files) ≤ maxBytes
       → JoinOf key (map (readState key arm last) files) files
+  pub edited-joins :
+      (s : Start) → AcceptedStart s → (calls : List Call) → fromStart s calls .truth → (arm last : ℕ) (files : List (List ℕ))
+      → let all = fromStart s calls .machine .bytes ∷ files in
+      Whole all → length (flatten all) ≤ maxBytes → JoinOf (s .key) (fromStart s calls .state ∷ map (readState (s .key) arm last) files) all
