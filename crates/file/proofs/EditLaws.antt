@@ -17,7 +17,7 @@ use Rattle.field.proofs.Steps.{steps-bound}
 use Rattle.file.specs.declared.geometry.Kind.{Kind}
 use Rattle.file.specs.declared.geometry.Kind.the-variants.{Change, DropFront, CutTail}
 use Rattle.file.specs.Edits.{Edit, change, append, prepend, dropFront, cutTail, kindOf, placeOf, given, replacing}
-use Rattle.file.specs.Edits.{kindRefusal, standsAt, lengthAfter, touched, exponent, Geometry, geometryAt, editRefusal, countOf, countLimit}
+use Rattle.file.specs.Edits.{kindRefusal, standsAt, lengthAfter, touched, exponent, Geometry, untouched, geometryAt, editRefusal, countOf, countLimit}
 use Rattle.file.specs.Table.{placedSum, newSum}
 use Rattle.file.specs.Machine.{bytesAfter, NamesHeld}
 use Rattle.file.proofs.Accepted.{Accepted, accepted}
@@ -47,9 +47,11 @@ geometry-some n e a z = geometry-fits _ _ _ _ n (sym (refusal-kind n e) ∙ a) (
 pub some-touched : (n : ℕ) (e : Edit) → editRefusal n e ≡ 0 → length (given e) ≢ 0 → geometryAt n e .q ≢ 0
 some-touched n e a z q = touched-some _ _ (omega arith) (sym (ap (λ (g : Geometry). g .q) (geometry-some n e a z)) ∙ q)
 
+pub refused-geometry : (n : ℕ) (e : Edit) → editRefusal n e ≢ 0 → geometryAt n e ≡ untouched (editRefusal n e) n
+refused-geometry n e a = rw (refusal-kind n e) (unfold geometryAt in geometry-none _ _ _ _ n (λ z. a (refusal-kind n e ∙ z)))
+
 pub refused-untouched : (n : ℕ) (e : Edit) → editRefusal n e ≢ 0 → geometryAt n e .q ≡ 0
-unfolding geometryAt
-refused-untouched n e a = geometry-none _ _ _ _ n (λ z. a (refusal-kind n e ∙ z))
+refused-untouched n e a = ap (λ (g : Geometry). g .q) (refused-geometry n e a)
 
 pub none-untouched : (n : ℕ) (e : Edit) → editRefusal n e ≡ 0 → length (given e) ≡ 0 → geometryAt n e .q ≡ 0
 unfolding geometryAt

@@ -148,8 +148,8 @@ module _ (kind : Kind) (p l r n : ℕ) where
   unfolding geometry
   geometry-fits e h = simp (eq-eqb _ _ e, ne-eqb _ _ (λ (z : l ≡ 0). omega arith))
 
-  -- a refused one touches no block
-  pub geometry-none : kindRefusal kind p l r n ≢ 0 → geometry kind p l r n .q ≡ 0
+  -- a refused one touches nothing
+  pub geometry-none : kindRefusal kind p l r n ≢ 0 → geometry kind p l r n ≡ untouched (kindRefusal kind p l r n) n
   unfolding geometry
   geometry-none e = simp (ne-eqb _ _ e)
 

@@ -102,7 +102,7 @@ module _ {j : List ℕ} {st₀ st : State} {at count : ℕ} (s : Standing j st�
         counted : m ≡ edited st (editOf j e) .count
         counted = em ∙ sym (ap outcomeCount d) ∙ ap (λ (y : StateAnswer). y .count) a
 
-        -- an edit counts at most 130 more than the bytes that it gives, its record has 12 bytes besides, and 130 is below 11 times 12
+        -- an edit counts at most 128 more than the bytes that it gives, its record has 12 bytes besides, and 128 is below 11 times 12
         count-few : count + m ≤ 11 * next
         unfolding recordBytes
         count-few = omega (arith, counted, edited-few st (editOf j e), record-within .0, s .few)

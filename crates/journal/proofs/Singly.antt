@@ -126,7 +126,7 @@ module _ (most : ℕ) (j : List ℕ) (r : Run) (at count : ℕ) (within : at ≤
         let y : editRefusal (r .state .n) e ≡ 0 = sym (edited-refusal (r .state) e) ∙ z in
         rw (made-opens most j at (r .state .n) q, applied-opens most j at (r .state) count q, eq-eqb _ 0 z, eq-eqb _ 0 y)
         (walked-next r j at next count e _ _ z q (behind .0)
-        (rw (edited-length (r .state) e y) at (rest (further r (edit e)) next (count + edited (r .state) e .count) (omega (arith, behind, record-some e)) (behind .1))))
+        (rw (edited-length (r .state) e) at (rest (further r (edit e)) next (count + edited (r .state) e .count) (omega (arith, behind, record-some e)) (behind .1))))
 
   walk-record : (e : Edit) (next : ℕ) → opening j at ≡ opens e next → (t : Bool) → eqb (edited (r .state) e .refusal) 0 ≡ t
       → Walk most j r at count
@@ -188,7 +188,7 @@ module _ (st : State) (count : ℕ) (r : ℕ × Edit) (rs : List (ℕ × Edit)) 
   unfolding appliedEdits stopFrom
   stops-by true z ih =
       let y : editRefusal (st .n) (r .1) ≡ 0 = sym (edited-refusal st (r .1)) ∙ eqb-true _ _ z in
-      rw (z, eq-eqb _ 0 y) (rw (edited-length st (r .1) y) at ih)
+      rw (z, eq-eqb _ 0 y) (rw (edited-length st (r .1)) at ih)
   stops-by false z ih =
       let y : editRefusal (st .n) (r .1) ≡ 0 → ⊥ = λ x. eqb-false _ _ z (edited-refusal st (r .1) ∙ x) in
       rw (z, ne-eqb _ 0 y) (λ i. (edited-refusal st (r .1) i, r .0))
