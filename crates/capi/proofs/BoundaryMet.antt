@@ -7,8 +7,8 @@ use mathlib.Core.List.{List, [], _∷_, _++_, map, flatten}
 use Prim.Native.Nat.{ℕ, _+_, _≤_, _<_, _^_}
 use native.Mathlib.Omega.{arith}
 use lib.ListN.{length, replicate, length-append, length-replicate}
-use borrow.Author.Tests.{lt-ltb, le-ltb, ltb-false}
-use Rattle.refusals.proofs.Laws.{first-here, first-later, first-passed}
+use borrow.Author.Tests.{lt-ltb, le-ltb}
+use Rattle.refusals.proofs.Laws.{first-here, first-later}
 use Rattle.cipher.specs.Aes.{keyFits}
 use Rattle.field.specs.Field.{bytesOf, sum, maxBytes, Whole}
 use Rattle.field.proofs.JoinsMet.{joins-met}
@@ -37,6 +37,7 @@ use Rattle.file.proofs.HypothesesMet.{met}
 use Rattle.file.proofs.Parts.{states-join-met}
 use Rattle.journal.specs.Journals.{maxJournal, replayRefusal}
 use Rattle.journal.specs.Met.{appendJournal}
+use Rattle.journal.proofs.PlaceLaws.{passed}
 use Rattle.journal.proofs.KnownJournals.{replay-met}
 use Rattle.journal.proofs.Lists.{journal-demands}
 use Rattle.capi.specs.Bytes.{stateFrom}
@@ -63,10 +64,7 @@ append-refused st s short past =
 
 -- a journal of too many bytes, whatever the state's length
 journal-refused : (n k : ℕ) → maxJournal < k → replayRefusal n (replicate k 0) ≢ 0
-unfolding replayRefusal
-journal-refused n k long z =
-    let short = ltb-false maxJournal (length (replicate k 0)) (first-passed _ _ _ (first-passed _ _ _ z (omega arith) .1) (omega arith) .0) in
-    omega (arith, long, short, length-replicate {A = ℕ} k 0)
+journal-refused n k long z = omega (arith, long, passed n (replicate k 0) z .1, length-replicate {A = ℕ} k 0)
 
 -- ---- lists of appends
 

@@ -20,7 +20,8 @@ use Rattle.journal.specs.Singly.{madeFrom, made, Opens, answerAt, Singly
 use Rattle.journal.specs.Met.{packedRecords, HaveRecords, FormatMet, appendJournal, Replayable, ReplayedWhole, ReplayMet}
 use Rattle.journal.proofs.Format.{format}
 use Rattle.journal.proofs.OpeningLaws.{record-some}
-use Rattle.journal.proofs.Singly.{made-opens, made-ended, passes, replay-theorem}
+use Rattle.journal.proofs.PlaceLaws.{passes}
+use Rattle.journal.proofs.Singly.{made-opens, made-ended, replay-theorem}
 
 -- ---- records back to back
 

@@ -3,6 +3,7 @@ pub mod RecordLaws
 pub mod Format
 pub mod ReaderWalks
 pub mod OpeningLaws
+pub mod PlaceLaws
 pub mod ReplayLaws
 pub mod Singly
 pub mod Lists

@@ -7,8 +7,7 @@ use Prim.Native.Nat.{ℕ, _+_, _≤_}
 use native.Mathlib.Nat.{add-zero}
 use lib.Dec.{eqb, ltb}
 use lib.ListN.{length}
-use borrow.Author.Tests.{le-ltb, ltb-true, ltb-false}
-use Rattle.refusals.proofs.Laws.{first-here, first-later}
+use borrow.Author.Tests.{ltb-true, ltb-false}
 use Rattle.field.specs.Field.{maxBytes}
 use Rattle.file.specs.Edits.{Edit}
 use Rattle.file.specs.States.{started, readFile}
@@ -26,6 +25,7 @@ use Rattle.file.proofs.KnownLists.{run-append}
 use Rattle.journal.specs.Journals.{maxJournal, replayRefusal}
 use Rattle.journal.specs.Singly.{made, stopOf, Task, call, replay, Editor, idle, worked, workedAll}
 use Rattle.journal.specs.Singly.{taskCalls, taskRefusal, taskStops, asCalls, taskRefusals, machineStops, SameEditor, JournalDemands}
+use Rattle.journal.proofs.PlaceLaws.{whole-journal}
 use Rattle.journal.proofs.Singly.{replay-theorem}
 
 -- ---- runs
@@ -90,9 +90,9 @@ module _ (r : Run) (refusals : List ℕ) (slips : List (List ℕ)) (stops : List
   replay-same : (j : List ℕ) → r .state .n ≤ maxBytes → (t : Bool) → ltb maxJournal (length j) ≡ t
       → let stop = stopOf (r .state .n) j in
       worked (editorOf r refusals slips stops) (replay j) ≡ after (map edit (made (r .state .n) j)) (stop .0) (stop ∷ [])
-  unfolding worked made replayRefusal run writtenIn
+  unfolding worked made run writtenIn
   replay-same j l true e =
-      let whole : 10 ≡ replayRefusal (r .state .n) j = first-later _ _ _ (le-ltb _ _ l) (first-here _ _ _ e) in
+      let whole : 10 ≡ replayRefusal (r .state .n) j = whole-journal (r .state .n) j l (ltb-true _ _ e) in
       let stop = replay-theorem .stops (r .state) j in
       rw (sym stop, replay-theorem .long-journal (r .state) j l (ltb-true _ _ e), ← whole)
       (λ i. record {

@@ -1,13 +1,13 @@
 -- Replay, a law for each return. The loop's invariant (`Standing`) says what remains: the records from here on give what the whole journal
 -- gives; and it bounds the count by the place, so that the total has room in a word.
--- They rest on what an opening tells (`OpeningLaws`) and on the file keeper's bound on an edit's count (`EditAnswers`).
-use mathlib.Core.Path.{_≡_, refl, sym, ap, subst, _∙_}
+-- They rest on the laws of a loop over the records (`PlaceLaws`), on a journal applied from a place on (`OpeningLaws`) and on the file keeper's bound on
+-- an edit's count (`EditAnswers`).
+use mathlib.Core.Path.{_≡_, refl, sym, ap, _∙_}
 use mathlib.Core.List.{List}
 use Prim.Native.Nat.{ℕ, suc, _+_, _-_, _*_, _^_, _≤_, _<_}
 use native.Mathlib.Omega.{arith}
 use lib.ListN.{length, take, drop}
-use borrow.Author.Tests.{eq-eqb, ne-eqb, ltb-false}
-use Rattle.refusals.proofs.Laws.{first-passed}
+use borrow.Author.Tests.{eq-eqb, ne-eqb}
 use Rattle.field.specs.declared.multiplying.Count.{Count}
 use Rattle.file.specs.declared.causes.Cause as keeper′
 use Rattle.file.specs.declared.states.State.{State}
@@ -26,11 +26,12 @@ use Rattle.journal.specs.declared.records.Span.{Span}
 use Rattle.journal.specs.declared.records.Edit.{Edit}
 use Rattle.journal.specs.declared.records.Opened.{Opened}
 use Rattle.journal.specs.declared.records.Opened.the-variants as opened
-use Rattle.journal.specs.Records.{recordBytes, opens, ended, opening}
+use Rattle.journal.specs.Records.{recordBytes, opens, opening}
 use Rattle.journal.specs.Journals.{maxJournal, ReplayAnswer, stoppedAt, openedJournal, journalFrom, applied, replayRefusal, replayed}
-use Rattle.journal.specs.Contracts.{causeNumber, answerRefusal, bytesIn, editOf, openingOf, OpenedAt}
-use Rattle.journal.proofs.RecordLaws.{cause-pos}
-use Rattle.journal.proofs.OpeningLaws.{Tells, tells, applied-opens, applied-refused, applied-ended, replayed-whole, replayed-records}
+use Rattle.journal.specs.Contracts.{causeNumber, answerRefusal, bytesIn, editOf, OpenedAt}
+use Rattle.journal.proofs.OpeningLaws.{applied-opens, applied-refused, applied-ended, replayed-whole, replayed-records}
+use Rattle.journal.proofs.PlaceLaws.{AtPlace, first-place, end-here, refused-here, record-here, record-within, next-place, next-most}
+use Rattle.journal.proofs.PlaceLaws.{whole-refused, whole-passed}
 
 -- ---- one record
 
@@ -47,40 +48,28 @@ applied-as j st q ek ex = ex ∙ ap (edited st) (ek ∙ sym (ap (editOf j) q))
 
 -- ---- the loop over the records
 
--- the records from a place on, of which `most` and one more are enough, give what the whole journal gives
+-- the records from a place on give what the whole journal gives
 pub record Standing (j : List ℕ) (st₀ st : State) (at count : ℕ) : Type 0 where
-  pub most : ℕ
-  pub rest : applied st count (journalFrom (suc most) j at) ≡ applied st₀ 0 (openedJournal j)
-  pub within : at ≤ length j
-  pub enough : length j ≤ at + most
+  pub place : AtPlace j at
+  pub rest : applied st count (journalFrom (suc (place .most)) j at) ≡ applied st₀ 0 (openedJournal j)
   pub few : count ≤ 11 * at
 
 pub standing-start : (j : List ℕ) (st : State) → Standing j st st 0 0
 unfolding openedJournal
-standing-start j st = record { most = length j; rest = refl; within = omega arith; enough = omega arith; few = omega arith }
+standing-start j st = record { place = first-place j; rest = refl; few = omega arith }
 
 module _ {j : List ℕ} {st₀ st : State} {at count : ℕ} (s : Standing j st₀ st at count) {o : Opened} (h : OpenedAt j at o) where
   pub standing-end : o ≡ opened.End → stoppedAt st count 0 (length j) ≡ applied st₀ 0 (openedJournal j)
   standing-end q =
-      let e : opening j at ≡ ended = sym (h .same) ∙ ap (openingOf j) q in
-      let end : length j ≤ at = subst (Tells j at) e (tells j at) in
-      let here : length j ≡ at = omega (arith, s .within) in
-      ap (stoppedAt st count 0) here ∙ sym (applied-ended (s .most) j at st count e) ∙ s .rest
+      let e = end-here (s .place) h q in
+      ap (stoppedAt st count 0) (e .1) ∙ sym (applied-ended (s .place .most) j at st count (e .0)) ∙ s .rest
 
   pub standing-refused : {c : Cause} → o ≡ opened.Refused c → stoppedAt st count (causeNumber c) at ≡ applied st₀ 0 (openedJournal j)
-  standing-refused q = sym (applied-refused (s .most) j at st count (sym (h .same) ∙ ap (openingOf j) q)) ∙ s .rest
+  standing-refused q = sym (applied-refused (s .place .most) j at st count (refused-here (s .place) h q)) ∙ s .rest
 
   module _ {e : Edit} {next : ℕ} (q : o ≡ opened.Record e next) where
     here : opening j at ≡ opens (editOf j e) next
-    here = sym (h .same) ∙ ap (openingOf j) q
-
-    -- the place moves on, and stays in the journal
-    record-within : (next ≡ at + recordBytes (editOf j e)) × (next ≤ length j)
-    record-within = subst (Tells j at) here (tells j at)
-
-    pub record-less : length j - next < length j - at
-    unfolding recordBytes
-    record-less = omega (arith, record-within, s .within)
+    here = record-here (s .place) h q
 
     -- x is what the edit's call answered
     module _ (x : Answered) (a : stateAnswer x ≡ edited st (editOf j e)) where
@@ -91,7 +80,7 @@ module _ {j : List ℕ} {st₀ st : State} {at count : ℕ} (s : Standing j st�
           sym (ap outcomeRefusal r) ∙ ap (λ (y : StateAnswer). y .refusal) a
           in
           ap (λ (m : ℕ). stoppedAt st count m at) n
-          ∙ sym (applied-opens (s .most) j at st count here ∙ simp (ne-eqb (edited st (editOf j e) .refusal) 0 (λ z. omega (arith, n, shape.cause-pos c))))
+          ∙ sym (applied-opens (s .place .most) j at st count here ∙ simp (ne-eqb (edited st (editOf j e) .refusal) 0 (λ z. omega (arith, n, shape.cause-pos c))))
           ∙ s .rest
 
       -- m is the count that it reports
@@ -105,24 +94,20 @@ module _ {j : List ℕ} {st₀ st : State} {at count : ℕ} (s : Standing j st�
         -- an edit counts at most 128 more than the bytes that it gives, its record has 12 bytes besides, and 128 is below 11 times 12
         count-few : count + m ≤ 11 * next
         unfolding recordBytes
-        count-few = omega (arith, counted, edited-few st (editOf j e), record-within .0, s .few)
+        count-few = omega (arith, counted, edited-few st (editOf j e), record-within (s .place) h q .0, s .few)
 
         -- so the total has room in a word
         pub count-fits : length j ≤ maxJournal → count + m < 2 ^ 64
-        count-fits l = omega (arith, count-few, record-within .1)
+        count-fits l = omega (arith, count-few, record-within (s .place) h q .1)
 
         pub standing-next : Standing j st₀ (x .state) next (count + m)
-        unfolding recordBytes
         standing-next =
-            let later : suc (s .most - 1) ≡ s .most = omega (arith, record-within, s .enough) in
             let state : x .state ≡ edited st (editOf j e) .state = ap (λ (y : StateAnswer). y .state) a in
             record {
-              most = s .most - 1;
+              place = next-place (s .place) h q;
               rest =
-                  rw (later, state, counted)
-                  (sym (applied-opens (s .most) j at st count here ∙ simp (eq-eqb (edited st (editOf j e) .refusal) 0 accepted)) ∙ s .rest);
-              within = record-within .1;
-              enough = omega (arith, record-within, s .enough);
+                  rw (next-most (s .place) h q, state, counted)
+                  (sym (applied-opens (s .place .most) j at st count here ∙ simp (eq-eqb (edited st (editOf j e) .refusal) 0 accepted)) ∙ s .rest);
               few = count-few;
             }
 
@@ -131,17 +116,7 @@ module _ {j : List ℕ} {st₀ st : State} {at count : ℕ} (s : Standing j st�
 -- a is the answer on state and journal as a whole
 module _ (st : State) (j : List ℕ) {a : Answer} (e : answerRefusal a ≡ replayRefusal (st .n) j) where
   pub replayed-refused : {c : Cause} → a ≡ answer.Refused c → stoppedAt st 0 (answerRefusal a) 0 ≡ replayed st j
-  replayed-refused {c} q =
-      let n : replayRefusal (st .n) j ≡ causeNumber c = sym e ∙ ap answerRefusal q in
-      ap (λ (m : ℕ). stoppedAt st 0 m 0) e ∙ sym (replayed-whole st j (λ z. omega (arith, n, cause-pos c)))
+  replayed-refused q = ap (λ (m : ℕ). stoppedAt st 0 m 0) e ∙ sym (replayed-whole st j (whole-refused (st .n) j e q))
 
-  module _ (q : a ≡ answer.Done) where
-    passed : replayRefusal (st .n) j ≡ 0
-    passed = sym e ∙ ap answerRefusal q
-
-    pub replayed-short : length j ≤ maxJournal
-    unfolding replayRefusal
-    replayed-short = ltb-false maxJournal (length j) (first-passed _ _ _ (first-passed _ _ _ passed (omega arith) .1) (omega arith) .0)
-
-    pub replayed-all : {x : ReplayAnswer} → x ≡ applied st 0 (openedJournal j) → x ≡ replayed st j
-    replayed-all x = x ∙ sym (replayed-records st j passed)
+  pub replayed-all : {x : ReplayAnswer} → a ≡ answer.Done → x ≡ applied st 0 (openedJournal j) → x ≡ replayed st j
+  replayed-all q x = x ∙ sym (replayed-records st j (whole-passed (st .n) j e q))

@@ -8,8 +8,7 @@ use native.Mathlib.Nat.{add-zero}
 use native.Mathlib.Omega.{arith}
 use lib.Dec.{eqb}
 use lib.ListN.{length, replicate}
-use borrow.Author.Tests.{eq-eqb, ne-eqb, eqb-true, eqb-false, lt-ltb, le-ltb}
-use Rattle.refusals.proofs.Laws.{first-none, first-here, first-later}
+use borrow.Author.Tests.{eq-eqb, ne-eqb, eqb-true, eqb-false}
 use Rattle.field.specs.Field.{maxBytes}
 use Rattle.file.specs.declared.states.State.{State}
 use Rattle.file.specs.Edits.{Edit, geometryAt, editRefusal}
@@ -22,6 +21,7 @@ use Rattle.journal.specs.Records.{headBytes, recordBytes, Opening, opens
 use Rattle.journal.specs.Journals.{Journal, journalWith, journalFrom, openedJournal, maxJournal, replayRefusal, ReplayAnswer, stoppedAt, appliedEdits, applied, replayed}
 use Rattle.journal.specs.Singly.{madeFrom, made, stopFrom, stopOf, Opens, answerAt, ReplayTheorem}
 use Rattle.journal.proofs.OpeningLaws.{Tells, tells, record-some, applied-opens, applied-refused, applied-ended, replayed-whole, replayed-records}
+use Rattle.journal.proofs.PlaceLaws.{whole-file, whole-journal, passes}
 
 -- ---- the edits made from a place on, by what stands there
 
@@ -151,10 +151,6 @@ whole : (st : State) (j : List ℕ) (n : ℕ) → n ≡ replayRefusal (st .n) j 
 whole st j n e p = replayed-whole st j (λ z. omega (arith, e)) ∙ ap (λ (m : ℕ). stoppedAt st 0 m 0) (sym e)
 
 -- what isn't
-pub passes : (n : ℕ) (j : List ℕ) → n ≤ maxBytes → length j ≤ maxJournal → replayRefusal n j ≡ 0
-unfolding replayRefusal
-passes n j short few = sym (first-later _ _ _ (le-ltb _ _ short) (first-later _ _ _ (le-ltb _ _ few) first-none))
-
 module _ (r : Run) (j : List ℕ) (short : r .state .n ≤ maxBytes) (few : length j ≤ maxJournal) where
   passed : replayRefusal (r .state .n) j ≡ 0
   passed = passes (r .state .n) j short few
@@ -209,11 +205,10 @@ stops-whole st j = flag (eqb (replayRefusal (st .n) j) 0) (openedJournal j)
     flag false o = refl
 
 pub replay-theorem : ReplayTheorem
-unfolding replayRefusal
 replay-theorem =
     record {
-      long-state = λ st j l. whole st j 2 (first-here _ _ _ (lt-ltb _ _ l)) (omega arith);
-      long-journal = λ st j l m. whole st j 10 (first-later _ _ _ (le-ltb _ _ l) (first-here _ _ _ (lt-ltb _ _ m))) (omega arith);
+      long-state = λ st j l. whole st j 2 (whole-file (st .n) j l) (omega arith);
+      long-journal = λ st j l m. whole st j 10 (whole-journal (st .n) j l m) (omega arith);
       singly = λ r j l m.
           let w = single r j l m in
           record {

@@ -1,7 +1,8 @@
 -- `journal::replaying::replay` meets its contract: a journal that is refused as a whole is not applied (`ReplayLaws`).
 use mathlib.Core.Path.{_∙_}
 use borrow.Author.Needs.{needs}
-use Rattle.journal.proofs.ReplayLaws.{replayed-refused, replayed-short, replayed-all}
+use Rattle.journal.proofs.PlaceLaws.{passed, whole-passed}
+use Rattle.journal.proofs.ReplayLaws.{replayed-refused, replayed-all}
 use Rattle.journal.proofs.replaying.replay.Statement.{statement}
 use Rattle.journal.proofs.replaying.replay.Tie as tie
 
@@ -21,7 +22,9 @@ enum-told-2 : tie.Need-enum-told-2
 enum-told-2 c = search needs
 
 replay-records-requires : tie.Need-replay-records-requires
-replay-records-requires c κs = replayed-short (c .before .before .before .before .args .state) _ (c .before .before .replay-refusal .ensures) (c .enum-told2 .given .1)
+replay-records-requires c κs =
+    let n = c .before .before .before .before .args .state .n in
+    passed n _ (whole-passed n _ (c .before .before .replay-refusal .ensures) (c .enum-told2 .given .1)) .1
 
 returns-2 : tie.Need-returns-2
 returns-2 c =

@@ -6,8 +6,8 @@ use native.Mathlib.Omega.{arith}
 use lib.ListN.{length}
 use borrow.Author.Needs.{needs}
 use Rattle.journal.specs.Contracts.{Inside}
-use Rattle.journal.proofs.ReplayLaws.{Standing, standing-start, standing-end, standing-refused, standing-stopped, standing-next}
-use Rattle.journal.proofs.ReplayLaws.{record-less, count-fits}
+use Rattle.journal.proofs.PlaceLaws.{record-less}
+use Rattle.journal.proofs.ReplayLaws.{Standing, standing-start, standing-end, standing-refused, standing-stopped, standing-next, count-fits}
 use Rattle.journal.proofs.replaying.replay_records.Statement.{statement}
 use Rattle.journal.proofs.replaying.replay_records.Tie as tie
 
@@ -86,7 +86,7 @@ loop-less : tie.Need-loop-less Inv-loop μ-loop
 loop-less c =
     let work = c .before .before .before .before .before in
     let read = work .before .before .before .before in
-    record-less (read .before .loop .inv) (read .record-at .ensures) (work .before .before .opened2 .given .1)
+    record-less (read .before .loop .inv .place) (read .record-at .ensures) (work .before .before .opened2 .given .1)
 
 loop-again : tie.Need-loop-again Inv-loop μ-loop
 loop-again c =
