@@ -60,7 +60,7 @@ unfolding Opens
 opens-few j at end [] o = omega (arith, o)
 opens-few j at end (e ∷ es) o = omega (arith, record-some e, opens-few j (at + recordBytes e) end es (o .1))
 
-end-ended : (j : List ℕ) (at : ℕ) → at ≡ length j → opening j at ≡ ended
+pub end-ended : (j : List ℕ) (at : ℕ) → at ≡ length j → opening j at ≡ ended
 unfolding opening
 end-ended j at e = rw (le-ltb at (length j) (omega (arith, e)))
 
@@ -78,7 +78,7 @@ format-met =
 
 -- ---- a journal of appends
 
-journal-opens : (es : List Edit) → HaveRecords es → Opens (packedRecords es) 0 es (length (packedRecords es))
+pub journal-opens : (es : List Edit) → HaveRecords es → Opens (packedRecords es) 0 es (length (packedRecords es))
 journal-opens es h = opens-moved es (append-nil (packedRecords es)) refl (zero-add (length (packedRecords es))) (opened es h [] [])
 
 -- all of it is made, where there is room

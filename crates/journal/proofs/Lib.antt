@@ -6,6 +6,11 @@ pub mod OpeningLaws
 pub mod PlaceLaws
 pub mod ReplayLaws
 pub mod Singly
+pub mod ChargeLaws
+pub mod ForecastLaws
+pub mod HeadLaws
+pub mod Forecasts
 pub mod Lists
 pub mod KnownJournals
+pub mod KnownForecasts
 pub mod KnownTasks

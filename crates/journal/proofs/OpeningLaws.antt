@@ -21,7 +21,7 @@ use Rattle.journal.proofs.RecordLaws.{head-enough, by-kinds, body-kinds
 -- ---- the bytes of a record that opens
 
 -- l bytes of a list from a place on
-length-part : (j : List ℕ) (at l : ℕ) → at + l ≤ length j → length (take l (drop at j)) ≡ l
+pub length-part : (j : List ℕ) (at l : ℕ) → at + l ≤ length j → length (take l (drop at j)) ≡ l
 length-part j at l h = length-take-le l (drop at j) (rw length-drop (omega arith))
 
 -- an edit has the bytes that stand behind its head

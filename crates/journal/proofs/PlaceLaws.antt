@@ -1,5 +1,5 @@
 -- A loop over a journal's records, whatever it does with them: where it stands (`AtPlace`), what was opened there, and the journal as a whole. Replay's
--- rests on these.
+-- and forecast's rest on these.
 -- They rest on what an opening tells (`OpeningLaws`).
 use mathlib.Core.Path.{_≡_, sym, ap, subst, _∙_}
 use mathlib.Core.List.{List}

@@ -3,6 +3,7 @@ use mathlib.Core.Path.{_≡_}
 use mathlib.Core.List.{List}
 use Prim.Native.Nat.{ℕ, _+_, _≤_}
 use lib.ListN.{length, take, drop}
+use Rattle.file.specs.declared.geometry.Kind.the-variants as kind
 use Rattle.file.specs.Edits as keeper
 use Rattle.file.specs.Contracts as keeper′
 use Rattle.journal.specs.declared.causes.Cause.{Cause}
@@ -16,8 +17,10 @@ use Rattle.journal.specs.declared.records.Edit.the-variants.{Change, App
 use Rattle.journal.specs.declared.records.Opened.{Opened}
 use Rattle.journal.specs.declared.records.Opened.the-variants as opened
 use Rattle.journal.specs.declared.replaying.Replayed.{Replayed}
+use Rattle.journal.specs.declared.forecasting.Forecasted.{Forecasted}
 use Rattle.journal.specs.Records.{byKind, recordKind, recordPlace, recordLength, Opening, opens, refused, ended, opening}
 use Rattle.journal.specs.Journals.{ReplayAnswer}
+use Rattle.journal.specs.Forecasts.{ForecastAnswer, forecastAt}
 
 -- the number of a cause (document 02, Q-1; the file keeper's are document 01's)
 abbrev pub causeNumber : Cause → ℕ
@@ -86,3 +89,15 @@ pub record OpenedAt (j : List ℕ) (at : ℕ) (r : Opened) : Type 0 where
 -- what replay answered
 abbrev pub replayAnswer : Replayed → ReplayAnswer
 replayAnswer r = record { state = r .state; count = r .count; refusal = answerRefusal (r .answer); offset = r .offset }
+
+-- what a record's edit does to lengths, by the sizes of its spans
+abbrev pub spanGeometry : ℕ → Edit → keeper.Geometry
+spanGeometry n (Change p old new) = keeper.geometry kind.Change p (old .size) (new .size) n
+spanGeometry n (Append given) = keeper.geometry kind.Append 0 (given .size) 0 n
+spanGeometry n (Prepend given) = keeper.geometry kind.Prepend 0 (given .size) 0 n
+spanGeometry n (DropFront given) = keeper.geometry kind.DropFront 0 (given .size) 0 n
+spanGeometry n (CutTail given) = keeper.geometry kind.CutTail 0 (given .size) 0 n
+
+-- what forecast answered
+abbrev pub forecastAnswer : Forecasted → ForecastAnswer
+forecastAnswer r = forecastAt (r .bound) (r .greatest) (answerRefusal (r .answer)) (r .offset)

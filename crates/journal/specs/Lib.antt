@@ -2,5 +2,6 @@
 pub mod Records
 pub mod Journals
 pub mod Singly
+pub mod Forecasts
 pub mod Met
 pub mod Contracts

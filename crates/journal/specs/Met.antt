@@ -1,14 +1,15 @@
 -- What the journal's theorems say of journals that are known to the end: records of any edits, and journals of appends, however many and however
 -- long. A hypothesis that were added to a theorem, such as a bound on a list or on an edit's bytes, would break what is said here. The proofs are
--- `format-met`, `replay-met` and `journal-demands-met` in proofs/KnownJournals and KnownTasks.
+-- `format-met`, `replay-met`, `forecast-met` and `journal-demands-met` in proofs/KnownJournals, KnownForecasts and KnownTasks.
 use mathlib.Core.Path.{_≡_}
+use mathlib.Core.Logic.{_≢_}
 use mathlib.Core.List.{List, [], _∷_, _++_, map, flatten}
 use Prim.Native.Nat.{ℕ, _+_, _≤_, _<_, _^_}
 use lib.ListN.{length, replicate}
 use Rattle.field.specs.Field.{sum, maxBytes}
 use Rattle.gcm.specs.Gcm.{hashKey}
 use Rattle.file.specs.declared.states.State.{State}
-use Rattle.file.specs.Edits.{Edit, change, append, prepend, dropFront, cutTail}
+use Rattle.file.specs.Edits.{Edit, change, append, prepend, dropFront, cutTail, geometryAt, countLimit}
 use Rattle.file.specs.States.{Start, Reading, started, readFile}
 use Rattle.file.specs.Slips.{slipBytes, slipNumber, sealed}
 use Rattle.file.specs.Calls.{seal}
@@ -18,6 +19,7 @@ use Rattle.file.specs.Met.{appends, appendCounts, grown}
 use Rattle.journal.specs.Records.{packedRecord, HasRecord}
 use Rattle.journal.specs.Journals.{maxJournal, ReplayAnswer, stoppedAt, replayed}
 use Rattle.journal.specs.Singly.{Opens, Task, call, replay, Editor, idle, workedAll}
+use Rattle.journal.specs.Forecasts.{charge, ForecastAnswer, forecastAt, forecasted}
 
 -- ---- records
 
@@ -66,6 +68,42 @@ pub record ReplayMet : Type 1 where
   -- and nothing of a journal that is too long, or of one for a state that is
   pub too-long : (st : State) (k : ℕ) → st .n ≤ maxBytes → maxJournal < k → replayed st (replicate k 0) ≡ stoppedAt st 0 10 0
   pub state-too-long : (st : State) (parts : List (List ℕ)) → maxBytes < st .n → replayed st (appendJournal parts) ≡ stoppedAt st 0 2 0
+
+-- ---- their forecasts
+
+-- what is forecast of a journal of appends that fit (document 02, Q-7): it is not refused, the greatest length is the one that they leave, and the bound
+-- is at least what they count and has room in a word
+pub record ForecastWhole (r after : Run) (parts : List (List ℕ)) (a : ForecastAnswer) : Type 0 where
+  pub refusal : a .refusal ≡ 0
+  pub offset : a .offset ≡ length (appendJournal parts)
+  pub greatest : a .greatest ≡ r .state .n + length (flatten parts)
+  pub left : after .state .n ≤ a .greatest
+  pub bound : after .total ≤ r .total + a .bound
+  pub fits : a .bound < 2 ^ 64
+
+-- two lists of parts, each part as long as its fellow
+unfoldable pub SameLengths : (parts parts′ : List (List ℕ)) → Type 0
+SameLengths [] [] = Unit {0}
+SameLengths [] (part′ ∷ parts′) = ⊥
+SameLengths (part ∷ parts) [] = ⊥
+SameLengths (part ∷ parts) (part′ ∷ parts′) = (length part ≡ length part′) × SameLengths parts parts′
+
+pub record ForecastMet : Type 1 where
+  pub whole :
+      (r : Run) (parts : List (List ℕ)) → Replayable parts → r .state .n + length (flatten parts) ≤ maxBytes
+      → ForecastWhole r (run r (appends parts)) parts (forecasted (r .state .n) (appendJournal parts))
+  -- each part that has bytes adds q + 2b, and one without none
+  pub part-adds :
+      (n : ℕ) (part : List ℕ) → n + length part ≤ maxBytes → length part ≢ 0
+      → charge n (geometryAt n (append part)) ≡ countLimit n (geometryAt n (append part))
+  pub nothing-adds : (n : ℕ) → n ≤ maxBytes → charge n (geometryAt n (append [])) ≡ 0
+  -- appends of other bytes, as long, have the same forecast
+  pub other-bytes :
+      (n : ℕ) (parts parts′ : List (List ℕ)) → HaveRecords (map append parts) → SameLengths parts parts′
+      → forecasted n (appendJournal parts) ≡ forecasted n (appendJournal parts′)
+  -- a journal that is too long, and a file that is
+  pub too-long : (n k : ℕ) → n ≤ maxBytes → maxJournal < k → forecasted n (replicate k 0) ≡ forecastAt 0 n 10 0
+  pub file-too-long : (n : ℕ) (parts : List (List ℕ)) → maxBytes < n → forecasted n (appendJournal parts) ≡ forecastAt 0 n 2 0
 
 -- ---- lists of journals
 

@@ -1,4 +1,4 @@
-// Why replay stops. The numbers are in specs/Contracts.
+// Why replay stops, and so forecast. The numbers are in specs/Contracts.
 ghost use mathlib.Core.Path.{_≡_};
 ghost use Rattle.journal.specs.Contracts.{causeNumber};
 
@@ -27,7 +27,7 @@ impl Cause {
     }
 }
 
-// What replay or a test answers.
+// What replay, forecast or a test answers.
 pub enum Answer {
     Done,
     Refused(Cause),

@@ -1,5 +1,5 @@
 // The reader: it stands at a place of the lent journal, opens what is there, and moves on. A struct that holds a slice is proved by hand, so its
-// functions are thin over `open_at`. Replay makes one for each record; its loop holds the place.
+// functions are thin over `open_at`. Replay and forecast make one for each record; their loops hold the place.
 use super::records::Opened;
 use super::records::open_at;
 ghost use mathlib.Core.Path.{_≡_};
@@ -34,7 +34,7 @@ pub fn open<'a>(r: Reader<'a>) -> Opened
     open_at(r.journal, r.place)
 }
 
-// Opens what stands at a place of a journal, by a reader. Replay reads every record so: its parameters are plain, and so its callers
+// Opens what stands at a place of a journal, by a reader. Replay and forecast read every record so: its parameters are plain, and so its callers
 // need no proof by hand.
 pub fn record_at(journal: &[u8], place: usize) -> Opened
     ensures { λ o. ⌜ OpenedAt (now (journal .entry)) place o ⌝ }

@@ -42,8 +42,8 @@ pub fn replay(state: State, journal: &[u8]) -> Replayed
     replay_records(state, journal)
 }
 
-// The refusal of a journal as a whole, or Done, for a state of n bytes.
-fn replay_refusal(n: u64, journal: &[u8]) -> Answer
+// The refusal of a journal as a whole, or Done, for a state of n bytes. It serves forecast too.
+pub fn replay_refusal(n: u64, journal: &[u8]) -> Answer
     ensures { λ r. ⌜ answerRefusal r ≡ replayRefusal n (now (journal .entry)) ⌝ }
 {
     if n > MAX_BYTES {
