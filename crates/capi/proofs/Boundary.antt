@@ -1,11 +1,11 @@
 -- A list of calls through the boundary is the list of calls of the demands: the lent bytes are those of the editor's state from an accepted
 -- start or read on, since every field of such a state has room in its bytes.
--- It rests on what each call leaves (`Leaves`), on the file keeper's invariant and on the journal's lists.
+-- It rests on what each call leaves (`Leaves`, `Forecasts`, `Joins`), on the file keeper's invariant and on the journal's lists.
 use mathlib.Core.Path.{_≡_, refl, sym, ap, ap₂, subst, _∙_}
 use mathlib.Core.Bool.{true}
 use mathlib.Core.Logic.{_≢_}
 use mathlib.Core.List.{List, [], _∷_, _++_, append-nil, append-assoc}
-use Prim.Native.Nat.{ℕ, _+_, _<_, _^_}
+use Prim.Native.Nat.{ℕ, _+_, _≤_, _<_, _^_}
 use lib.ListN.{length, getD}
 use Rattle.cipher.specs.Aes.{keyFits}
 use Rattle.file.specs.declared.states.State.{State}
@@ -19,6 +19,7 @@ use Rattle.file.proofs.Demand1.{edited-kept, sealed-kept}
 use Rattle.file.proofs.KnownLists.{run-append}
 use Rattle.file.proofs.Invariant.{Holds, holds-start, holds-read, holds-kept}
 use Rattle.journal.specs.Journals.{replayRefusal, replayed}
+use Rattle.journal.specs.Forecasts.{forecasted}
 use Rattle.journal.specs.Singly.{Task, call, replay, Editor, worked, taskCalls, taskRefusal, asCalls, taskRefusals}
 use Rattle.journal.proofs.OpeningLaws.{replayed-whole}
 use Rattle.journal.proofs.Lists.{editorOf, holds-run, task-same}
@@ -32,6 +33,7 @@ use Rattle.capi.proofs.StateBytes.{HasRoom, state-back, bytes-back}
 use Rattle.capi.proofs.Leaves.{has-room, kept-accepted, kept-same, stamped-state, start-leaves, read-leaves}
 use Rattle.capi.proofs.Leaves.{edit-leaves, seal-leaves, check-leaves, replay-leaves}
 use Rattle.capi.proofs.Joins.{join-leaves, parts-joined}
+use Rattle.capi.proofs.Forecasts.{forecast-holds, longest}
 
 -- ---- one call or journal on the bytes of a state
 
@@ -89,6 +91,9 @@ module _ (key : List ℕ) (arm : ℕ) (k : keyFits key ≡ true) (w : arm < 2 ^ 
           seals = λ out. subst (λ (x : List ℕ). SealLeaves x st out) (sym b) (seal-leaves st room out (room-later (seal out)));
           checks = λ slip verdict. subst (λ (x : List ℕ). CheckLeaves x st slip verdict) (sym b) (check-leaves st room slip verdict);
           replays = λ j. subst (λ (x : List ℕ). ReplayLeaves x st j) (sym b) (replay-leaves st room j (room-replayed j));
+          longest = λ j.
+              subst (λ (x : List ℕ). stateFrom (replayCall x j .state) .n ≤ forecasted (stateFrom x .n) j .greatest) (sym b)
+              (longest st room j (room-replayed j));
         }
 
   boundary-run : (l : LentRun) (r : Run) (calls : List Call) → Holds key arm (r .state) (r .machine) → l .state ≡ packedState (r .state)
@@ -148,6 +153,7 @@ boundary-theorem =
           (holds-read r (a .accepted) (a .last))
           (ap (λ (x : EditCall). x .state) (kept-accepted (readFile r) lent 0 (a .accepted))) refl refl;
       whole = whole-kept;
+      forecasts = forecast-holds;
       joins = join-leaves;
       parts = parts-joined;
     }

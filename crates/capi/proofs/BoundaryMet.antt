@@ -96,6 +96,10 @@ grows s a lent count parts short =
           let x = b .held .replays (appendJournal more) in
           let whole = replay-met .whole (fromStart s (appends parts)) more fit (rw (g .lengths) room) in
           (x .refusal ∙ whole .refusal, x .offset ∙ whole .offset);
+      forecasts = λ j.
+          let f = boundary-theorem .forecasts (lentRun (lentBegun (startCall s lent count .state)) (appends parts) .state) j in
+          let n = ap (λ (st : State). st .n) (b .held .state) ∙ g .lengths in
+          (rw n at (f .refusal), rw n at (f .offset), rw n at (f .count), rw n at (b .held .longest j));
     }
 
 -- b is the run before the first call, and l are the lent bytes there, of which the boundary's theorem speaks

@@ -28,10 +28,12 @@ use Rattle.file.specs.Edits.{Edit}
 use Rattle.file.specs.States.{StateAnswer, Start, started, Reading, readFile, edited}
 use Rattle.file.specs.Slips.{SealAnswer, sealed, CheckAnswer, checked}
 use Rattle.file.proofs.ShapeLaws.{cause-pos}
+use Rattle.journal.specs.declared.forecasting.Forecasted.{Forecasted}
 use Rattle.journal.specs.declared.replaying.Replayed.{Replayed}
 use Rattle.journal.specs.Contracts as journal
-use Rattle.journal.specs.Contracts.{replayAnswer}
+use Rattle.journal.specs.Contracts.{replayAnswer, forecastAnswer}
 use Rattle.journal.specs.Journals.{replayed}
+use Rattle.journal.specs.Forecasts.{forecastAt, forecasted}
 use Rattle.capi.specs.Bytes.{packedState, stateFrom}
 use Rattle.capi.specs.Calls.{EditCall, kept, editCall, startCall, readCall, SealCall, stamped, sealCall}
 use Rattle.capi.specs.Calls.{CheckCall, verdictByte, judged, checkCall, written, replayCall, handed, joinCall}
@@ -133,6 +135,13 @@ unfolding replayCall written
 replay-call state j es r er eb en =
     ap₂ (λ (m : ℕ) (t : List ℕ). replayResult m t (r .count) (r .offset)) en eb
     ∙ ap written (er ∙ ap (λ (t : State). replayed t j) es)
+
+-- ---- forecast
+
+-- f is what it answered, and m its refusal
+pub forecast-call : (n : ℕ) (j : List ℕ) {m : ℕ} (f : Forecasted) → forecastAnswer f ≡ forecasted n j → m ≡ journal.answerRefusal (f .answer)
+    → forecastAt (f .bound) (f .greatest) m (f .offset) ≡ forecasted n j
+forecast-call n j f ef em = ap (λ (x : ℕ). forecastAt (f .bound) (f .greatest) x (f .offset)) em ∙ ef
 
 -- ---- blocks and joins
 

@@ -3,5 +3,6 @@ pub mod StateBytes
 pub mod CallLaws
 pub mod Leaves
 pub mod Joins
+pub mod Forecasts
 pub mod Boundary
 pub mod BoundaryMet

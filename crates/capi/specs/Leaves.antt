@@ -1,10 +1,10 @@
 -- What each call on a state leaves in lent bytes, field by field, beside what the editor answers to it: `lent` are the bytes and `st` is the
 -- editor's state. Numbers are the editor's, the bytes hold the editor's state afterwards (`stateFrom`), and a refusal leaves what was lent. And what a
--- join leaves beside what the field answers to it.
+-- join leaves beside what the field answers to it, and how a forecast stands to the replay that follows.
 use mathlib.Core.Path.{_≡_}
 use mathlib.Core.Logic.{_↔_, _≢_}
 use mathlib.Core.List.{List}
-use Prim.Native.Nat.{ℕ}
+use Prim.Native.Nat.{ℕ, _≤_}
 use Rattle.field.specs.Field.{blankCount, bytesOf, joined}
 use Rattle.file.specs.declared.states.State.{State}
 use Rattle.file.specs.declared.sealing.Verdict.the-variants.{NotGenuine, Current, Stale, Ahead}
@@ -13,6 +13,7 @@ use Rattle.file.specs.States.{Start, Reading, started, readFile, edited}
 use Rattle.file.specs.Slips.{sealed, checkRefusal, Finds}
 use Rattle.file.specs.Demands.{AcceptedStart, AcceptedRead}
 use Rattle.journal.specs.Journals.{replayed}
+use Rattle.journal.specs.Forecasts.{forecasted}
 use Rattle.capi.specs.Bytes.{stateFrom}
 use Rattle.capi.specs.Calls.{editCall, startCall, readCall, sealCall, checkCall, replayCall, joinCall}
 
@@ -58,6 +59,12 @@ pub record ReplayLeaves (lent : List ℕ) (st : State) (j : List ℕ) : Type 0 w
   pub state : stateFrom (replayCall lent j .state) ≡ replayed st j .state
   pub count : replayCall lent j .count ≡ replayed st j .count
   pub offset : replayCall lent j .offset ≡ replayed st j .offset
+
+-- what a replay leaves beside the forecast of the lent state's length (document 02, Q-7): the same number and offset, and no count above the bound
+pub record ForecastHolds (lent j : List ℕ) : Type 0 where
+  pub refusal : replayCall lent j .refusal ≡ forecasted (stateFrom lent .n) j .refusal
+  pub offset : replayCall lent j .offset ≡ forecasted (stateFrom lent .n) j .offset
+  pub count : replayCall lent j .count ≤ forecasted (stateFrom lent .n) j .bound
 
 -- a join (document 02, Q-6), which has no state: what the field answers, or what was lent
 pub record JoinLeaves (h sums lengths lent : List ℕ) (n : ℕ) : Type 0 where

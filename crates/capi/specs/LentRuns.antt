@@ -16,9 +16,10 @@ use Rattle.file.specs.Demands.{AcceptedStart, AcceptedRead}
 use Rattle.file.specs.Parts.{AllAgree}
 use Rattle.journal.specs.Journals.{replayRefusal}
 use Rattle.journal.specs.Singly.{Task, call, replay, asCalls, taskRefusals}
+use Rattle.journal.specs.Forecasts.{forecasted}
 use Rattle.capi.specs.Bytes.{stateBytes, stateFrom}
 use Rattle.capi.specs.Calls.{EditCall, editCall, startCall, readCall, sealCall, checkCall, replayCall, JoinCall, joinCall}
-use Rattle.capi.specs.Leaves.{StartLeaves, ReadLeaves, EditLeaves, SealLeaves, CheckLeaves, ReplayLeaves, JoinLeaves}
+use Rattle.capi.specs.Leaves.{StartLeaves, ReadLeaves, EditLeaves, SealLeaves, CheckLeaves, ReplayLeaves, ForecastHolds, JoinLeaves}
 
 -- one call: its refusal, the lent state afterwards, which a check can't write, and the count it reports, 0 where it reports none; it serves
 -- laws alone
@@ -63,7 +64,7 @@ lentTasks l [] = l
 lentTasks l (t ∷ ts) = lentTasks (lentWith l (lentTask (l .state) t)) ts
 
 -- the lent bytes hold the editor's state of a run, the counts are the editor's, and so is what each call that may come next leaves, whatever is
--- lent to it; the boundary's own statement, in no paper
+-- lent to it; and no journal makes the file longer than is forecast (document 02, Q-7); the boundary's own statement, in no paper
 pub record Held (l : LentRun) (r : Run) : Type 0 where
   pub state : stateFrom (l .state) ≡ r .state
   pub total : l .total ≡ r .total
@@ -71,6 +72,7 @@ pub record Held (l : LentRun) (r : Run) : Type 0 where
   pub seals : (out : List ℕ) → SealLeaves (l .state) (r .state) out
   pub checks : (slip : List ℕ) (verdict : ℕ) → CheckLeaves (l .state) (r .state) slip verdict
   pub replays : (j : List ℕ) → ReplayLeaves (l .state) (r .state) j
+  pub longest : (j : List ℕ) → stateFrom (replayCall (l .state) j .state) .n ≤ forecasted (stateFrom (l .state) .n) j .greatest
 
 -- and the numbers answered are these; the boundary's own
 pub record Boundary (l : LentRun) (r : Run) (answered : List ℕ) : Type 0 where
@@ -86,8 +88,8 @@ statesJoined one states lent n =
 -- a start and a read leave what the file keeper's do, whatever was lent. After any list of calls from an accepted start and from an accepted
 -- read the lent bytes hold the editor's state, and the numbers are the editor's; after any list in which journals stand as well, the state is
 -- that of the run in which they stand as their edits, and the numbers are the plain machine's, task by task. A journal that is refused as a whole
--- leaves the lent state as it was. A join leaves what the field's answers; of lent states that agree with reads of their parts it is the sum and the
--- length of the joined bytes. The boundary's own
+-- leaves the lent state as it was. A replay stops as was forecast, whatever was lent. A join leaves what the field's answers; of lent states that agree
+-- with reads of their parts it is the sum and the length of the joined bytes. The boundary's own
 pub record BoundaryTheorem : Type 0 where
   pub starts : (s : Start) (lent : List ℕ) (count : ℕ) → StartLeaves s lent count
   pub reads : (r : Reading) (lent : List ℕ) → ReadLeaves r lent
@@ -108,6 +110,7 @@ pub record BoundaryTheorem : Type 0 where
   pub whole :
       (state j : List ℕ) → length state ≡ stateBytes → ((i : ℕ) → i < stateBytes → getD state i 0 < 256)
       → replayRefusal (stateFrom state .n) j ≢ 0 → replayCall state j .state ≡ state
+  pub forecasts : (state j : List ℕ) → ForecastHolds state j
   pub joins : (h sums lengths lent : List ℕ) (n : ℕ) → JoinLeaves h sums lengths lent n
   pub parts :
       (key : List ℕ) (states files : List (List ℕ)) → AllAgree key (map stateFrom states) files → Whole files → length (flatten files) ≤ maxBytes

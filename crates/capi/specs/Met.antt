@@ -17,6 +17,7 @@ use Rattle.file.specs.Demands.{AcceptedStart, AcceptedRead, SlipOf}
 use Rattle.file.specs.Met.{appends, appendCounts, grown}
 use Rattle.journal.specs.Journals.{maxJournal}
 use Rattle.journal.specs.Singly.{Task, Editor, idle, workedAll}
+use Rattle.journal.specs.Forecasts.{forecasted}
 use Rattle.journal.specs.Met.{appendJournal, Replayable}
 use Rattle.capi.specs.Bytes.{stateBytes, stateFrom}
 use Rattle.capi.specs.Calls.{EditCall, editCall, startCall, readCall, sealCall, checkCall, replayCall, joinCall}
@@ -39,6 +40,12 @@ pub record GrownInBytes (s : Start) (parts : List (List ℕ)) (x : EditCall) (l 
       (more : List (List ℕ)) → Replayable more → s .n + length (flatten parts) + length (flatten more) ≤ maxBytes
       → let a = replayCall (l .state) (appendJournal more) in
       (a .refusal ≡ 0) × (a .offset ≡ length (appendJournal more))
+  -- as is forecast of every journal, and it leaves no more bytes and counts no more (document 02, Q-7)
+  pub forecasts :
+      (j : List ℕ)
+      → let f = forecasted (s .n + length (flatten parts)) j in
+      let a = replayCall (l .state) j in
+      (a .refusal ≡ f .refusal) × (a .offset ≡ f .offset) × (a .count ≤ f .bound) × (stateFrom (a .state) .n ≤ f .greatest)
 
 -- a seal in lent bytes that hold a file (document 01, "Slip, seal, check"): it is accepted and writes a slip of the file with the next number, and
 -- a check of that slip leaves 1, which is current, whatever stood there (document 02, Q-5)

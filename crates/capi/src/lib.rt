@@ -12,6 +12,7 @@ use answers::verdict_byte;
 use file::Answer;
 use file::Checked;
 use file::State;
+use journal::forecast;
 use journal::replay;
 use packing::BLOCK_BYTES;
 use packing::STATE_BYTES;
@@ -27,6 +28,7 @@ ghost use Rattle.cipher.specs.Aes.{encryptRefusal, encryptOutput};
 ghost use Rattle.field.specs.Field.{bytesOf, multiplyRefusal, multiplyOutput, ghashRefusal, ghashOutput};
 ghost use Rattle.gcm.specs.Gcm.{gmacRefusal, gmacOutput, encrypted, encryptResult, decrypted, decryptResult};
 ghost use Rattle.file.specs.Edits;
+ghost use Rattle.journal.specs.Forecasts.{forecastAt, forecasted};
 ghost use Rattle.capi.specs.Bytes.{stateFrom};
 ghost use Rattle.capi.specs.Calls.{editCall, startCall, readCall, sealCall, checkCall, replayCall, joinCall};
 ghost use Rattle.capi.specs.Contracts.{editResult, readResult, sealResult, checkResult, replayResult, joinResult};
@@ -330,5 +332,26 @@ pub extern "C" fn armfile_replay(
     *count = replayed.count;
     *offset = replayed.offset;
     let answer = replayed.answer;
+    journal_number(answer)
+}
+
+// Forecasts what armfile_replay will do of a journal to a state of n bytes, as `journal::forecast` does, from the heads of the records alone: its
+// refusal and offset, the most that it will count, and the greatest length on the way. All three are written always: they are those of the records
+// before the refused one.
+#[no_mangle]
+pub extern "C" fn armfile_forecast(
+    n: u64,
+    journal: &[u8],
+    bound: &mut u64,
+    greatest: &mut u64,
+    offset: &mut u64,
+) -> u64
+    ensures { λ r. ⌜ forecastAt (now (bound .exit)) (now (greatest .exit)) r (now (offset .exit)) ≡ forecasted n (now (journal .entry)) ⌝ }
+{
+    let told = forecast(n, journal);
+    *bound = told.bound;
+    *greatest = told.greatest;
+    *offset = told.offset;
+    let answer = told.answer;
     journal_number(answer)
 }
