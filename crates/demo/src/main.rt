@@ -1,8 +1,8 @@
-// One motion file's week: a start on a blank card, which reads FF (hexadecimal), four edits, a journal of two more that a service laptop brings, and
-// Tuesday's seal. The format is changed and sealed on Wednesday, and put back and sealed on Thursday, so that Tuesday's card has the right bytes
-// again on Friday; its slip is stale. After a restart the card is read once, and slips are checked. Each step prints the file's length, the running
-// sum and the count of products, or the slip, or the verdict, or a refusal's number. After a write that failed nothing more is printed, and that is
-// told on standard error.
+// One motion file's week: a start on a blank card, which reads FF (hexadecimal), four edits, a journal of two more that a service laptop brings, which
+// is forecast before it is run, and Tuesday's seal. The format is changed and sealed on Wednesday, and put back and sealed on Thursday, so that
+// Tuesday's card has the right bytes again on Friday; its slip is stale. After a restart the card is read once, and slips are checked. Each step prints
+// the file's length, the running sum and the count of products, or the forecast, or the slip, or the verdict, or a refusal's number. After a write that
+// failed nothing more is printed, and that is told on standard error.
 use file::Answer;
 use file::Answered;
 use file::Cause;
@@ -11,7 +11,9 @@ use file::Outcome;
 use file::SLIP_BYTES;
 use file::State;
 use file::Verdict;
+use journal::Forecasted;
 use journal::Replayed;
+use journal::forecast;
 use journal::replay;
 use libc::STDERR_FILENO;
 use libc::STDOUT_FILENO;
@@ -45,7 +47,9 @@ fn week(told: &mut bool) {
     // A change of bytes 31 to 33 from "new" to "now", and an append of "er B". A head is kind and place in 8 bytes, and a length in 4.
     let journal: &[u8] = b"\x20\0\0\0\0\0\0\x1f\0\0\0\x03newnow\x40\0\0\0\0\0\0\0\0\0\0\x04er B";
     let cut = &journal[..33];
+    print_forecast(told, b"forecast a journal cut short", forecast(st.n, cut));
     print_replay(told, b"replay a journal cut short", replay(st, cut));
+    print_forecast(told, b"forecast the whole journal", forecast(st.n, journal));
     let st = print_replay(told, b"replay the whole journal", replay(st, journal));
     let mut tuesday = [0u8; SLIP_BYTES];
     let st = print_seal(told, b"seal on Tuesday", st, &mut tuesday);
@@ -159,12 +163,29 @@ fn print_refusal(told: &mut bool, cause: Cause) {
     print_decimal(told, cause.number());
 }
 
+// Prints a forecast.
+fn print_forecast(told: &mut bool, name: &[u8], f: Forecasted) {
+    say(told, name);
+    say(told, b": bound ");
+    print_decimal(told, f.bound);
+    say(told, b", greatest length ");
+    print_decimal(told, f.greatest);
+    let answer = f.answer;
+    print_stop(told, answer, f.offset);
+}
+
 // Prints what a replay answered, and hands on the state.
 fn print_replay(told: &mut bool, name: &[u8], r: Replayed) -> State {
     let st = r.state;
     say(told, name);
     print_state(told, st, r.count);
     let answer = r.answer;
+    print_stop(told, answer, r.offset);
+    st
+}
+
+// Prints where a replay stops, or a forecast.
+fn print_stop(told: &mut bool, answer: journal::Answer, offset: u64) {
     match answer {
         journal::Answer::Done => say(told, b", done at "),
         journal::Answer::Refused(cause) => {
@@ -173,9 +194,8 @@ fn print_replay(told: &mut bool, name: &[u8], r: Replayed) -> State {
             say(told, b" at ");
         }
     }
-    print_decimal(told, r.offset);
+    print_decimal(told, offset);
     say(told, b"\n");
-    st
 }
 
 // Prints a verdict.
