@@ -5,14 +5,14 @@
  * and its companion I, running sum (GHASH without its length block), length,
  * arm number, last used seal number. It begins with a file that is at hand, or
  * with a blank one, which is a fill byte and a length. Five edits move that
- * state without reading the file, one by one or as a journal of them. Of a file
- * that is kept in parts, sum and length follow from those of the parts. A seal
- * writes a slip of 36 bytes whose tag is AES-128 GMAC of the whole file; a
- * check says whether a slip is genuine and, if it is, whether it is current,
- * stale or ahead: whether its seal number is the state's last used one, a
- * smaller or a larger. A file that is to travel unread is encrypted by AES-128
- * GCM, which needs no state. FIPS 197 decides for AES, NIST SP 800-38D for the
- * field, GHASH, GMAC and GCM.
+ * state without reading the file, one by one or as a journal of them; what a
+ * journal will take can be forecast before it is run. Of a file that is kept in
+ * parts, sum and length follow from those of the parts. A seal writes a slip of
+ * 36 bytes whose tag is AES-128 GMAC of the whole file; a check says whether a
+ * slip is genuine and, if it is, whether it is current, stale or ahead: whether
+ * its seal number is the state's last used one, a smaller or a larger. A file
+ * that is to travel unread is encrypted by AES-128 GCM, which needs no state.
+ * FIPS 197 decides for AES, NIST SP 800-38D for the field, GHASH, GMAC and GCM.
  *
  * The library is for x86-64 and needs no other library.
  *
@@ -22,11 +22,12 @@
  * armfile_arm, armfile_last, armfile_sum, armfile_hash_key) returns 0 when the
  * work was done, or the number of a refusal (below). A refused call leaves
  * every lent buffer, the state, the count, the verdict, and a join's sum and n
- * as they were, with one exception: armfile_replay always writes state, count
- * and offset, and what it did before the refused record stays done. No input
- * makes a call fail in any other way: there is no abort, no assertion and no
- * error state. This is proved, for all inputs, of the source; the compiler's
- * back end and linker are not covered.
+ * as they were, with two exceptions: armfile_replay always writes state, count
+ * and offset, and what it did before the refused record stays done; and
+ * armfile_forecast always writes bound, greatest and offset. No input makes a
+ * call fail in any other way: there is no abort, no assertion and no error
+ * state. This is proved, for all inputs, of the source; the compiler's back end
+ * and linker are not covered.
  *
  * Nothing is allocated, and no static data is written: calls on different
  * states may run in different threads. Calls on one state must not overlap in
@@ -44,19 +45,20 @@
  *    address of an object then serves; of `lengths`, an aligned one).
  *  - Every length is the true one: that many bytes may be read, and of `out`,
  *    of an encryption's `tag` and of a seal's `slip` written. It is below 2^63.
+ *    Of a forecast's journal only the heads of the records need be readable.
  *  - `lengths` points to an aligned array of lengths_len uint64_t, fewer than
  *    2^60.
- *  - `state` points to ARMFILE_STATE_BYTES bytes; `count`, `offset` and the `n`
- *    of a join each to an aligned uint64_t; `verdict` to one byte; the `sum` of
- *    a join and the `out` of armfile_sum and of armfile_hash_key to 16 bytes.
- *    None of them needs a value before the call, but for a state that is read:
- *    that of an edit, a replay, a seal, a check or one of the five that read
- *    its fields.
- *  - What a call may write (a state that is not const, count, offset, out, the
- *    tag of an encryption, the slip of a seal, verdict, the sum and the n of a
- *    join) overlaps nothing else that is passed to it: so no text is encrypted
- *    or decrypted in place. What is only read may overlap freely: old and new
- *    of a change may be the same bytes.
+ *  - `state` points to ARMFILE_STATE_BYTES bytes; `count`, `offset`, `bound`,
+ *    `greatest` and the `n` of a join each to an aligned uint64_t; `verdict` to
+ *    one byte; the `sum` of a join and the `out` of armfile_sum and of
+ *    armfile_hash_key to 16 bytes. None of them needs a value before the call,
+ *    but for a state that is read: that of an edit, a replay, a seal, a check
+ *    or one of the five that read its fields.
+ *  - What a call may write (a state that is not const, count, offset, bound,
+ *    greatest, out, the tag of an encryption, the slip of a seal, verdict, the
+ *    sum and the n of a join) overlaps nothing else that is passed to it: so no
+ *    text is encrypted or decrypted in place. What is only read may overlap
+ *    freely: old and new of a change may be the same bytes.
  *
  * TIME
  *
@@ -68,11 +70,12 @@
  * substitution by gates on bits. Time does depend on lengths, those of a file's
  * parts too, on places (p, n), on a blank file's fill byte, on the arm number,
  * on seal numbers, the last used one too, on a slip's bytes outside its tag and
- * on the heads of a journal's records; these are taken for public. Blocks are
- * multiplied by multiplications of integers, which are taken to last the same
- * whatever they multiply, as they do on x86-64; nothing is divided. This is
- * observed of the compiled library (tests/ct), but for how long a
- * multiplication lasts, and is not part of what is proved.
+ * on the heads of a journal's records; these are taken for public. A forecast
+ * reads nothing else. Blocks are multiplied by multiplications of integers,
+ * which are taken to last the same whatever they multiply, as they do on
+ * x86-64; nothing is divided. This is observed of the compiled library
+ * (tests/ct), but for how long a multiplication lasts, and is not part of what
+ * is proved.
  *
  * STACK
  *
@@ -85,10 +88,10 @@
  * is the same with fill 0 as with another. This is measured (tests/stack), and
  * is not part of what is proved:
  *
- *      armfile_encrypt      1000            armfile_prepend     1080
- *      armfile_multiply      184            armfile_drop_front  1080
- *      armfile_ghash       12712   648      armfile_cut_tail    1080
- *      armfile_join          584            armfile_replay      1336
+ *      armfile_encrypt      1000            armfile_drop_front  1080
+ *      armfile_multiply      184            armfile_cut_tail    1080
+ *      armfile_ghash       12712   648      armfile_replay      1416
+ *      armfile_join          584            armfile_forecast     208
  *      armfile_gmac        13384  1560      armfile_seal        1496
  *      armfile_gcm_encrypt 13272  3368      armfile_check       1432
  *      armfile_gcm_decrypt 13256  3352      armfile_length         8
@@ -96,16 +99,17 @@
  *      armfile_read        12872  1272      armfile_last           8
  *      armfile_change       1080            armfile_sum           56
  *      armfile_append       1080            armfile_hash_key      56
+ *      armfile_prepend      1080
  *
  * WHAT TO WIPE
  *
  * A call leaves on the stack, below its caller's frame, what it worked with:
  * keys, hash keys, H, I and sums were found there after every call but the
- * three that read a state's public fields, and after the two of GCM also key
- * stream, which is as good as the text to whoever has the ciphertext. The
- * library wipes nothing: what the compiler copies where is out of the source's
- * reach. A caller into whose stack somebody else may look wipes, after the last
- * call,
+ * three that read a state's public fields and armfile_forecast, which handles
+ * no secret, and after the two of GCM also key stream, which is as good as the
+ * text to whoever has the ciphertext. The library wipes nothing: what the
+ * compiler copies where is out of the source's reach. A caller into whose stack
+ * somebody else may look wipes, after the last call,
  *
  *  - the stack below itself, by calling, from the function that made the calls,
  *    one that is not inlined and overwrites at least as many bytes as the
@@ -117,17 +121,17 @@
  *    that fit;
  *  - its own copies of the key, and of texts that nobody else is to read.
  *
- * Slips, counts, offsets, verdicts, nonces, ciphertexts and tags that were sent
- * are no secret. Registers were not looked into.
+ * Slips, counts, offsets, forecasts, verdicts, nonces, ciphertexts and tags
+ * that were sent are no secret. Registers were not looked into.
  *
  * COST
  *
  * Nanoseconds a call takes, the median of many, on one core of an Intel Xeon
  * server (no instruction for AES or for products of polynomials is used), all of
- * one run; other runs there took from nine tenths to nearly twice as long. That
- * of a join is of an AMD EPYC server, where the others took from three quarters
- * to eleven tenths as long. Take them as orders of magnitude, and `make cost`
- * for your own machine:
+ * one run; other runs there took from nine tenths to nearly twice as long.
+ * Those of a join and of a forecast are of an AMD EPYC server, where the others
+ * took from three quarters to eleven tenths as long. Take them as orders of
+ * magnitude, and `make cost` for your own machine:
  *
  *      armfile_start of 0 bytes, of 1 GiB of FF  9 000, 14 000
  *      armfile_read of 1 KiB, of 1 MiB        11 000, 1 400 000
@@ -140,6 +144,7 @@
  *      armfile_gcm_decrypt of 1 KiB                      9 800
  *      armfile_encrypt, armfile_multiply             1 100, 90
  *      armfile_join of 1000 parts of 1 MiB           1 100 000
+ *      armfile_forecast of 100 records                     730
  *
  * Most of what an edit takes is its products of blocks, some 57 each; it
  * returns how many it took. armfile_start returns how many a blank file took,
@@ -148,10 +153,10 @@
  * of an input of 512 bytes or more takes some 21. What armfile_start and
  * armfile_read take besides the file is H's companion I, 127 squares and 127
  * products. A replay takes a little less than its edits when they are made
- * singly. Of GCM the cipher takes four fifths, some 86 a block (what an
- * encryption of 1 MiB takes more than a read of it), and of up to two blocks
- * behind the last sixteen some 600 each. docs/BENCHMARKS.md has more, beside
- * other libraries.
+ * singly, and a forecast, which multiplies nothing, some 7 a record. Of GCM the
+ * cipher takes four fifths, some 86 a block (what an encryption of 1 MiB takes
+ * more than a read of it), and of up to two blocks behind the last sixteen some
+ * 600 each. docs/BENCHMARKS.md has more, beside other libraries.
  *
  * THE STATE
  *
@@ -180,9 +185,9 @@
  *
  * Any ARMFILE_STATE_BYTES bytes are taken as a state; no call trusts what it
  * finds there. Where n passes 2^61 - 1, every edit, replay, seal and check
- * refuses the state with 2 before all else; otherwise the call does its work on
- * the fields as they are. Only states that come from armfile_start or
- * armfile_read and the calls after it stand for a file.
+ * refuses the state with 2 before all else, and a forecast such an n; otherwise
+ * the call does its work on the fields as they are. Only states that come from
+ * armfile_start or armfile_read and the calls after it stand for a file.
  *
  * A FILE IN PIECES
  *
@@ -225,8 +230,9 @@
  * removed bytes, that the file does not have at that place, the call is
  * accepted and the state stands for no file from then on: seals of it are not
  * GMAC of the file. The same goes for the records of a journal, each of which
- * meets the file that those before it left. The first change of blank bytes has
- * fill bytes for its old ones.
+ * meets the file that those before it left; a forecast is the same whether or
+ * not they are true. The first change of blank bytes has fill bytes for its old
+ * ones.
  */
 #ifndef ARMFILE_H
 #define ARMFILE_H
@@ -777,17 +783,20 @@ uint64_t armfile_cut_tail(uint8_t state[ARMFILE_STATE_BYTES],
 /*                                                                      */
 /* So an append of two bytes, 61 and 62, is the record, in hexadecimal, */
 /* 40 00 00 00 00 00 00 00  00 00 00 02  61 62.                         */
+/*                                                                      */
+/* A replay runs a journal, and a forecast says before what it will do. */
+/* These two calls always write, whatever they return.                  */
 
 /**
  * \brief Replays a journal: makes the edits of its records in order, up to the
  * first that is refused.
  *
- * UNLIKE EVERY OTHER CALL, THIS ONE ALWAYS WRITES: whatever it returns, it puts
- * state, count and offset. They are those of the records before the refused
- * one, and of all records where none is refused: the state that the same edits
- * leave when they are made singly, the sum of their counts, and the number of
- * bytes of those records. So `offset` is the refused record's first byte,
- * counted from 0, or `journal_len` where 0 is returned.
+ * UNLIKE EVERY CALL BUT armfile_forecast(), THIS ONE ALWAYS WRITES: whatever it
+ * returns, it puts state, count and offset. They are those of the records
+ * before the refused one, and of all records where none is refused: the state
+ * that the same edits leave when they are made singly, the sum of their counts,
+ * and the number of bytes of those records. So `offset` is the refused record's
+ * first byte, counted from 0, or `journal_len` where 0 is returned.
  *
  * A caller who wants all or nothing keeps a copy of the state's
  * ARMFILE_STATE_BYTES bytes, puts it back where the call is refused, and wipes
@@ -823,6 +832,65 @@ uint64_t armfile_cut_tail(uint8_t state[ARMFILE_STATE_BYTES],
 uint64_t armfile_replay(uint8_t state[ARMFILE_STATE_BYTES],
 	const uint8_t *journal, size_t journal_len,
 	uint64_t *count, uint64_t *offset);
+
+/**
+ * \brief Forecasts a replay: the most products that it will count, the greatest
+ * length that the file will reach, and where it will stop.
+ *
+ * A pendant asks this before a journal is run: how long to wait, and how long
+ * the file will get. The answer is of an armfile_replay() of the journal to a
+ * state of `n` bytes, and follows from n, from journal_len and from the heads
+ * of the records. It takes no key and no state, and changes none. Who has a
+ * state passes armfile_length(state).
+ *
+ * THIS CALL ALWAYS WRITES, as armfile_replay() does: whatever it returns, it
+ * puts bound, greatest and offset. They are those of the records before the
+ * refused one, and of all records where none is refused.
+ *
+ *  - `bound`: armfile_replay() counts at most so many products. It is the sum,
+ *    over the edits of at least one byte, of one for each 16-byte block that
+ *    the edit's bytes touch, and two for each binary digit of the file's block
+ *    count, the larger of before and after. An edit of no bytes adds nothing.
+ *    COST says what a product takes.
+ *  - `greatest`: the largest of n and the file's lengths after each of these
+ *    records. It is exact.
+ *  - `offset`: the refused record's first byte, counted from 0, or journal_len
+ *    where 0 is returned; the one that armfile_replay() puts.
+ *
+ * Of the journal only the heads are read, the 12 bytes where each record
+ * begins, up to the refused one. What stands between them may still be on its
+ * way, or lie in memory that is slow, or that cannot be read. So the time goes
+ * by the number of records and not by their bytes, and whether old and removed
+ * bytes are true does not matter. That the answer follows from the heads alone
+ * is proved; that no other byte is read is observed of the compiled library
+ * (tests/ct, tests/rust), and is not part of what is proved.
+ *
+ * Refused as armfile_replay() would be, at the same record: with 2 where `n`
+ * passes 2^61 - 1, then with 10 where `journal_len` passes 2^40; no byte of the
+ * journal is then read, bound and offset are 0, and greatest is n. Then, of
+ * each record in turn, with 10, 11 and 12 and as its edit is, for the causes
+ * and in the order of armfile_replay(). An empty journal is accepted where n
+ * is: bound and offset are 0, and greatest is n.
+ *
+ * The length after the last record is not told. So of a journal that comes in
+ * pieces each is forecast when those before it have been replayed.
+ *
+ * \param n            the file's length in bytes before the first record, at
+ *                     most 2^61 - 1.
+ * \param journal      the journal; it may be empty. It must not overlap bound,
+ *                     greatest or offset.
+ * \param journal_len  its length, at most 2^40.
+ * \param bound        receives the most products that the records before
+ *                     `offset` will take.
+ * \param greatest     receives the greatest length, at least n. It must not be
+ *                     bound.
+ * \param offset       receives the first byte of the refused record, or
+ *                     journal_len. It must not be bound or greatest.
+ * \return 0, 2, 10, 11, 12, 5 or 3.
+ */
+uint64_t armfile_forecast(uint64_t n,
+	const uint8_t *journal, size_t journal_len,
+	uint64_t *bound, uint64_t *greatest, uint64_t *offset);
 
 /* ==================================================================== */
 /* Seal and check.                                                      */
