@@ -1,6 +1,6 @@
-//! The calls without a state on slices, but for a join, with the refusals of
-//! document 01, and of document 02, Q-2, in their order. A refused call leaves
-//! its outputs as before.
+//! The calls without a state on slices, but for a join and a forecast, with the
+//! refusals of document 01, and of document 02, Q-2, in their order. A refused
+//! call leaves its outputs as before.
 
 use crate::aes;
 use crate::field::{self, Block};

@@ -1,5 +1,8 @@
 //! A small repeatable random generator for tests, splitmix64, and the bytes
-//! that tests of edits, and the lengths that tests of joins, choose with it.
+//! that tests of edits, the heads that tests of forecasts, and the lengths that
+//! tests of joins choose with it.
+
+use crate::journal::{Head, CHANGE, DROP_FRONT, PREPEND};
 
 /// The binary digits of a part's block count: so few that its bytes can be had.
 pub const FEW: u64 = 3;
@@ -81,6 +84,26 @@ impl Random {
             count += self.below(16);
         }
         self.bytes(count as usize)
+    }
+
+    /// Heads of up to so many records that a file of n bytes accepts, with lengths
+    /// of any width up to so many bits.
+    pub fn some_heads(&mut self, mut n: u64, most: u64, width: u64) -> Vec<Head> {
+        let mut heads = Vec::new();
+        for _ in 0..most {
+            let kind = 1 + self.below(5);
+            let mut l = self.number() >> (64 - width + self.below(width));
+            if [PREPEND, DROP_FRONT].contains(&kind) {
+                l = l / 16 * 16;
+            }
+            let p = if kind == CHANGE { self.below(n + 1) } else { 0 };
+            let head = Head { kind, p, l };
+            if head.edit_refusal(n).is_ok() {
+                n = head.length_after(n);
+                heads.push(head);
+            }
+        }
+        heads
     }
 
     /// The lengths of so many parts, each of less than 2^width blocks and often

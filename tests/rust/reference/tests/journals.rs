@@ -1,6 +1,9 @@
 //! Document 02, Q-1: replay against the same calls made singly, and against
-//! the plain machine.
+//! the plain machine; and Q-7: forecasts against both.
 
+use std::collections::BTreeSet;
+
+use reference::forecast::{forecast, Forecast};
 use reference::journal::{Edit, Head, Replayed};
 use reference::random::{copy_front, copy_tail, Random};
 use reference::refusal::MAX_BYTES;
@@ -140,9 +143,57 @@ fn by_machine(edit: &Edit, machine: &mut Machine) -> Result<u64, u64> {
     }
 }
 
-/// Journals of true edits: the machine is fed the edits themselves, up to the
-/// one that it refuses, and the replay leaves the state of a reader of its
-/// bytes. What follows a refused record has no part.
+/// What Q-7 sums up of an accepted edit, between files of these lengths: the
+/// blocks that its bytes touch, gathered byte by byte, and twice the binary
+/// digits of the larger block count.
+fn bound(edit: &Edit, before: u64, after: u64) -> u64 {
+    let (first, bytes) = match edit {
+        Edit::Change { p, new, .. } => (*p, new),
+        Edit::Append(bytes) => (before, bytes),
+        Edit::Prepend(bytes) | Edit::DropFront(bytes) => (0, bytes),
+        Edit::CutTail(bytes) => (after, bytes),
+    };
+    let places = first..first + bytes.len() as u64;
+    let touched: BTreeSet<u64> = places.map(|byte| byte / 16).collect();
+    if touched.is_empty() {
+        return 0;
+    }
+    let blocks = before.max(after).div_ceil(16);
+    (touched.len() + 2 * format!("{blocks:b}").len()) as u64
+}
+
+/// A journal of true edits. The machine is fed the edits themselves, up to one
+/// that it refuses; what follows a refused record has no part. Beside it what a
+/// replay and a forecast must answer, from the machine's counts and lengths.
+fn some_journal(random: &mut Random, machine: &mut Machine) -> (Vec<u8>, Replayed, Forecast) {
+    let (mut journal, mut replayed) = (Vec::new(), Replayed::default());
+    let (mut most, mut greatest) = (0, machine.n());
+    for _ in 0..random.below(20) {
+        let edit = some_edit(random, &machine.bytes);
+        let before = machine.n();
+        journal.extend(edit.pack());
+        match by_machine(&edit, machine) {
+            Ok(count) => replayed.count += count,
+            Err(number) => {
+                replayed.refusal = Some(number);
+                journal.extend(random.some_bytes(60));
+                break;
+            }
+        }
+        replayed.offset = journal.len() as u64;
+        most += bound(&edit, before, machine.n());
+        greatest = greatest.max(machine.n());
+    }
+    let told = Forecast {
+        bound: most,
+        greatest,
+        offset: replayed.offset,
+        refusal: replayed.refusal,
+    };
+    (journal, replayed, told)
+}
+
+/// The replay leaves the state of a reader of the machine's bytes.
 #[test]
 fn journals_of_true_edits() {
     let mut random = Random::for_test(50);
@@ -151,20 +202,9 @@ fn journals_of_true_edits() {
         let n = random.below(120);
         let file = random.bytes(n as usize);
         let mut machine = Machine::read(&KEY, 7, 8, &file).unwrap();
-        let (mut journal, mut expected) = (Vec::new(), Replayed::default());
-        for _ in 0..random.below(20) {
-            let edit = some_edit(&mut random, &machine.bytes);
-            journal.extend(edit.pack());
-            match by_machine(&edit, &mut machine) {
-                Ok(count) => expected.count += count,
-                Err(number) => {
-                    expected.refusal = Some(number);
-                    journal.extend(random.some_bytes(60));
-                    break;
-                }
-            }
-            expected.offset = journal.len() as u64;
-        }
+        let (journal, expected, told) = some_journal(&mut random, &mut machine);
+        assert_eq!(forecast(n, &journal), told);
+        assert!(expected.count <= told.bound, "{expected:?}, {told:?}");
         let mut state = State::read(&KEY, 7, 8, &file).unwrap();
         assert_eq!(state.replay(&journal), expected);
         assert_eq!(state, State::read(&KEY, 7, 8, &machine.bytes).unwrap());
