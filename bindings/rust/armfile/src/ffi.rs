@@ -2,8 +2,9 @@
 //! of armfile.h, as safe functions: a slice stands for a pointer and a length,
 //! and the answer is the refusal number, or 0 for work done. A refused call
 //! leaves every lent buffer as it was, but for a replay, which always writes
-//! state, count and offset. The five that read a field of a state refuse none:
-//! they answer the field, or write it to `out`.
+//! state, count and offset, and a forecast, which always writes bound, greatest
+//! and offset. The five that read a field of a state refuse none: they answer
+//! the field, or write it to `out`.
 //!
 //! Each call is sound for the same reason: every pointer comes from a
 //! reference that lives through the call, with the length of what it refers
@@ -163,6 +164,14 @@ pub mod c {
             journal: *const u8,
             journal_len: usize,
             count: *mut u64,
+            offset: *mut u64,
+        ) -> u64;
+        pub fn armfile_forecast(
+            n: u64,
+            journal: *const u8,
+            journal_len: usize,
+            bound: *mut u64,
+            greatest: *mut u64,
             offset: *mut u64,
         ) -> u64;
         pub fn armfile_seal(state: *mut u8, slip: *mut u8, slip_len: usize) -> u64;
@@ -460,6 +469,18 @@ pub fn replay(state: &mut StateBytes, journal: &[u8], count: &mut u64, offset: &
             offset,
         )
     }
+}
+
+/// `armfile_forecast`: [`crate::forecast()`].
+pub fn forecast(
+    n: u64,
+    journal: &[u8],
+    bound: &mut u64,
+    greatest: &mut u64,
+    offset: &mut u64,
+) -> u64 {
+    // SAFETY: as said at the module's head.
+    unsafe { c::armfile_forecast(n, pointer(journal), journal.len(), bound, greatest, offset) }
 }
 
 /// `armfile_seal`: [`crate::State::seal`].

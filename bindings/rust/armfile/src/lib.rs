@@ -8,7 +8,8 @@
 //! whether it is the newest: a [`Verdict`]. A file that is to travel unread is
 //! encrypted by [`gcm_encrypt`] and brought back by [`gcm_decrypt`], which need
 //! no state. Of a file that is kept in parts [`join()`] gives the sum and the
-//! length, from those of the parts.
+//! length, from those of the parts. What a journal of edits will do to a file
+//! [`forecast()`] tells beforehand, from the heads of its records.
 //!
 //! ```
 //! use armfile::{State, Verdict, SLIP_BYTES};
@@ -30,9 +31,11 @@
 //! Every call either does its work or is refused with a [`Refusal`], and a
 //! refused call leaves the state and every lent buffer as they were. The one
 //! exception is [`State::replay`], which runs a journal of edits up to the
-//! first that is refused and keeps what those before it did. The library
-//! proves what it answers; what this wrapper adds is that lengths are those of
-//! the slices, and that [`join()`] goes through its parts group by group.
+//! first that is refused and keeps what those before it did. [`forecast()`]
+//! alters nothing, but refused or not it tells what the records before that one
+//! will do. The library proves what it answers; what this wrapper adds is that
+//! lengths are those of the slices, and that [`join()`] goes through its parts
+//! group by group.
 //!
 //! The wrapper needs no allocator and no operating system: it uses `core`
 //! alone, and the library beneath it needs no other.
@@ -49,12 +52,14 @@ extern crate std;
 use core::fmt;
 
 pub mod ffi;
+mod forecast;
 mod join;
 #[cfg(doctest)]
 mod refused;
 mod wipe;
 
 pub use ffi::{StateBytes, BLOCK_BYTES, STATE_BYTES};
+pub use forecast::{forecast, Forecast};
 pub use join::{join, Part};
 
 /// The bytes of a slip.
@@ -520,6 +525,12 @@ impl State {
             offset,
             refusal: Refusal::of(answer).err(),
         }
+    }
+
+    /// What [`State::replay`] of this journal will come to: [`forecast()`] for
+    /// the state's own length. The state stays as it is.
+    pub fn forecast(&self, journal: &[u8]) -> Forecast {
+        forecast(self.length(), journal)
     }
 
     /// Seals the file: the last used number rises by one, and the 36 bytes of
