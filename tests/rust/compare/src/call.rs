@@ -3,17 +3,20 @@
 
 use std::fmt;
 
-use armfile::{ffi, Part, Refusal, StateBytes, BLOCK_BYTES, STATE_BYTES};
+use armfile::{ffi, Forecast, Part, Refusal, StateBytes, BLOCK_BYTES, STATE_BYTES};
 use reference::journal::Edit;
-use reference::{calls, join, State};
+use reference::{calls, forecast, join, State};
 
 use crate::hex;
 
-/// A call made by the functions of a module, by a join and by the methods of a
-/// state: but for the join, the wrapper and the second implementation give them
-/// the same names.
+/// A call made by the functions of a module, by a join, by a forecast and by the
+/// methods of a state: but for those two, the wrapper and the second
+/// implementation give them the same names.
 macro_rules! made {
-    ($call:expr, $module:ident, $join:path, $state:ty, $held:ident, $after:ident) => {{
+    (
+        $call:expr, $module:ident, $join:path, $forecast:path,
+        $state:ty, $held:ident, $after:ident
+    ) => {{
         let out = &mut $after.out;
         match $call {
             Call::Encrypt { key, block } => $module::encrypt(key, block, out),
@@ -53,13 +56,19 @@ macro_rules! made {
                 ($after.count, $after.offset) = (replayed.count, replayed.offset);
                 replayed.refusal.map_or(Ok(()), Err)
             }
+            Call::Forecast { n, journal } => {
+                let told = $forecast(*n, journal);
+                ($after.bound, $after.greatest) = (told.bound, told.greatest);
+                $after.offset = told.offset;
+                told.refusal.map_or(Ok(()), Err)
+            }
             Call::Seal => $held.seal(out),
             Call::Check { slip } => $held.check(slip).map(|v| $after.verdict = v.number()),
         }
     }};
 }
 
-/// A count, an offset or a length that no call has written yet.
+/// A count, a bound, an offset or a length that no call has written yet.
 pub const UNWRITTEN: u64 = 0xeeee_eeee_eeee_eeee;
 
 /// A verdict that no check has written yet.
@@ -141,6 +150,10 @@ pub enum Call {
     Replay {
         journal: Vec<u8>,
     },
+    Forecast {
+        n: u64,
+        journal: Vec<u8>,
+    },
     Seal,
     Check {
         slip: Vec<u8>,
@@ -168,8 +181,9 @@ impl Message {
 }
 
 /// All that calls are lent for writing: the state, the output or slip, the tag
-/// of an encryption, the count, the offset, the verdict, and the sum and the
-/// length of a join. A call is lent some of them, and must leave the others.
+/// of an encryption, the count, the offset, the verdict, the sum and the length
+/// of a join, and the bound and the greatest length of a forecast. A call is lent
+/// some of them, and must leave the others.
 #[derive(Clone, PartialEq, Eq)]
 pub struct Lent {
     pub state: StateBytes,
@@ -180,6 +194,8 @@ pub struct Lent {
     pub verdict: u8,
     pub sum: [u8; BLOCK_BYTES],
     pub n: u64,
+    pub bound: u64,
+    pub greatest: u64,
 }
 
 /// An answer, 0 or a refusal number, and what was lent as it is afterwards.
@@ -252,6 +268,9 @@ impl Call {
             Call::DropFront { bytes } => ("drop_front", vec![("bytes", bytes)], vec![]),
             Call::CutTail { bytes } => ("cut_tail", vec![("bytes", bytes)], vec![]),
             Call::Replay { journal } => ("replay", vec![("journal", journal)], vec![]),
+            Call::Forecast { n, journal } => {
+                ("forecast", vec![("journal", journal)], vec![("n", *n)])
+            }
             Call::Seal => ("seal", vec![], vec![]),
             Call::Check { slip } => ("check", vec![("slip", slip)], vec![]),
         }
@@ -274,20 +293,37 @@ impl Call {
     pub fn by_wrapper(&self, before: &Lent) -> Outcome {
         let mut after = before.clone();
         let mut held = armfile::State::from_bytes(before.state);
-        let answer = made!(self, armfile, wrapped_join, armfile::State, held, after);
+        let answer = made!(
+            self,
+            armfile,
+            wrapped_join,
+            wrapped_forecast,
+            armfile::State,
+            held,
+            after
+        );
         after.state = *held.as_bytes();
         (answer.map_or_else(Refusal::number, |()| 0), after)
     }
 
     /// The call by the second implementation. That a refused call alters
-    /// nothing, but for a replay, is said here once more.
+    /// nothing, but for a replay and a forecast, is said here once more.
     pub fn by_reference(&self, before: &Lent) -> Outcome {
         let mut after = before.clone();
         let mut held = State::from_state_bytes(&before.state);
-        let answer = made!(self, calls, join::join, State, held, after);
+        let answer = made!(
+            self,
+            calls,
+            join::join,
+            forecast::forecast,
+            State,
+            held,
+            after
+        );
         after.state = held.state_bytes();
+        let always_writes = matches!(self, Call::Replay { .. } | Call::Forecast { .. });
         match answer {
-            Err(number) if !matches!(self, Call::Replay { .. }) => (number, before.clone()),
+            Err(number) if !always_writes => (number, before.clone()),
             _ => (answer.err().unwrap_or(0), after),
         }
     }
@@ -304,6 +340,19 @@ fn wrapped_join(h: &[u8], sums: &[u8], lengths: &[u64]) -> Result<Part, Refusal>
     let sums = blocks.map(|sum| sum.try_into().expect("16 bytes"));
     let parts: Vec<Part> = sums.zip(lengths.iter().copied()).collect();
     armfile::join(h, &parts)
+}
+
+/// A forecast by the wrapper, which has two functions for it: of a length, and of
+/// a state that has this length. They must agree.
+fn wrapped_forecast(n: u64, journal: &[u8]) -> Forecast {
+    let told = armfile::forecast(n, journal);
+    let state = State {
+        n,
+        ..State::default()
+    };
+    let held = armfile::State::from_bytes(state.state_bytes());
+    assert_eq!(held.forecast(journal), told, "the forecast by a state");
+    told
 }
 
 impl fmt::Display for Call {
@@ -332,6 +381,8 @@ impl Lent {
             verdict: UNJUDGED,
             sum: [0xee; BLOCK_BYTES],
             n: UNWRITTEN,
+            bound: UNWRITTEN,
+            greatest: UNWRITTEN,
         }
     }
 
@@ -352,10 +403,11 @@ impl fmt::Display for Lent {
         let (state, out, tag) = (hex(&self.state), shown(&self.out), hex(&self.tag));
         let (count, offset, verdict) = (self.count, self.offset, self.verdict);
         let (sum, n) = (hex(&self.sum), self.n);
+        let (bound, greatest) = (self.bound, self.greatest);
         write!(
             f,
             "state {state}, out '{out}', tag '{tag}', count {count}, offset {offset}, \
-             verdict {verdict}, sum {sum}, n {n}"
+             verdict {verdict}, sum {sum}, n {n}, bound {bound}, greatest {greatest}"
         )
     }
 }

@@ -102,8 +102,16 @@ impl Case {
 
     /// Makes a call by the library, by its wrapper and by `reference`, holds
     /// them to the same outcome, and leaves in `lent` what it is afterwards.
-    /// Returns 0 or the refusal number.
+    /// Returns 0 or the refusal number. A replay is made with its forecast.
     pub fn call(&mut self, call: &Call, lent: &mut Lent) -> u64 {
+        match call {
+            Call::Replay { journal } => self.foretold(call, journal, lent),
+            _ => self.compared(call, lent),
+        }
+    }
+
+    /// Makes and compares this one call.
+    pub(crate) fn compared(&mut self, call: &Call, lent: &mut Lent) -> u64 {
         self.begins(Some((call.clone(), lent.clone())));
         let lead = self.random.below(16) as usize;
         let expected = call.by_reference(lent);

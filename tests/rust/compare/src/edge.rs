@@ -1,6 +1,6 @@
 //! Memory that ends at a page which may be neither read nor written. A call that
-//! goes past the end of what stands there ends the process by a signal. For
-//! Linux.
+//! goes past the end of what stands there ends the process by a signal, or one
+//! that was made for it. For Linux.
 
 #![allow(unsafe_code)]
 
@@ -24,6 +24,9 @@ mod system {
         pub fn mprotect(place: *mut c_void, length: usize, protection: c_int) -> c_int;
         pub fn munmap(place: *mut c_void, length: usize) -> c_int;
         pub fn signal(number: c_int, handler: usize) -> usize;
+        pub fn fork() -> c_int;
+        pub fn waitpid(process: c_int, status: *mut c_int, options: c_int) -> c_int;
+        pub fn _exit(status: c_int) -> !;
     }
 
     pub const PROT_NONE: c_int = 0;
@@ -34,38 +37,79 @@ mod system {
 }
 
 /// The bytes of a page.
-const PAGE: usize = 4096;
+pub const PAGE: usize = 4096;
 
-/// Bytes that may be read and written, and behind them a page that may not.
-pub struct Edge {
+/// Whole pages that may be neither read nor written, but for those that were
+/// opened. Pages that are never touched take no memory.
+pub(crate) struct Pages {
     first: *mut u8,
-    room: usize,
+    bytes: usize,
 }
 
-impl Edge {
-    /// Room for so many bytes or more, all zero. Pages that are never touched
-    /// take no memory.
-    pub fn new(least: usize) -> Edge {
-        let room = least.next_multiple_of(PAGE);
+impl Pages {
+    pub(crate) fn new(bytes: usize) -> Pages {
         let (null, flags) = (
             std::ptr::null_mut(),
             system::MAP_PRIVATE_ANONYMOUS_NORESERVE,
         );
-        // SAFETY: a new mapping takes nothing away, and all of it but the last
-        // page is then made what may be written.
-        let first = unsafe {
-            let first = system::mmap(null, room + PAGE, system::PROT_NONE, flags, -1, 0);
-            assert_ne!(first as isize, -1, "no memory for {room} bytes");
-            let denied = system::mprotect(first, room, system::PROT_READ_WRITE);
-            assert_eq!(denied, 0, "no memory to write for {room} bytes");
-            first.cast()
-        };
-        Edge { first, room }
+        // SAFETY: a new mapping takes nothing away.
+        let first = unsafe { system::mmap(null, bytes, system::PROT_NONE, flags, -1, 0) };
+        assert_ne!(first as isize, -1, "no memory for {bytes} bytes");
+        Pages {
+            first: first.cast(),
+            bytes,
+        }
+    }
+
+    /// The byte with this number, or the end.
+    pub(crate) fn at(&self, place: usize) -> *mut u8 {
+        assert!(place <= self.bytes, "{place} of {} bytes", self.bytes);
+        self.first.wrapping_add(place)
+    }
+
+    /// Lets these bytes, whole pages, be read and written. They are zero at first.
+    pub(crate) fn open(&mut self, place: usize, bytes: usize) -> &mut [u8] {
+        assert!(place + bytes <= self.bytes, "{bytes} bytes at {place}");
+        let first = self.at(place);
+        // SAFETY: they are in the mapping, which is this value's alone.
+        unsafe {
+            let denied = system::mprotect(first.cast(), bytes, system::PROT_READ_WRITE);
+            assert_eq!(denied, 0, "no memory to write for {bytes} bytes");
+            std::slice::from_raw_parts_mut(first, bytes)
+        }
+    }
+}
+
+impl Drop for Pages {
+    fn drop(&mut self) {
+        // SAFETY: nothing refers to the mapping any more.
+        unsafe { system::munmap(self.first.cast(), self.bytes) };
+    }
+}
+
+// SAFETY: the memory is the value's own, as that of a Box is.
+unsafe impl Send for Pages {}
+// SAFETY: what is shared only tells where the pages are.
+unsafe impl Sync for Pages {}
+
+/// Bytes that may be read and written, and behind them a page that may not.
+pub struct Edge {
+    pages: Pages,
+    room: usize,
+}
+
+impl Edge {
+    /// Room for so many bytes or more, all zero.
+    pub fn new(least: usize) -> Edge {
+        let room = least.next_multiple_of(PAGE);
+        let mut pages = Pages::new(room + PAGE);
+        pages.open(0, room);
+        Edge { pages, room }
     }
 
     /// The page's first byte, which is nobody's.
     pub fn end(&self) -> *mut u8 {
-        self.first.wrapping_add(self.room)
+        self.pages.at(self.room)
     }
 
     /// The last so many bytes before the page. Where there are fewer the memory
@@ -79,17 +123,21 @@ impl Edge {
     }
 }
 
-impl Drop for Edge {
-    fn drop(&mut self) {
-        // SAFETY: nothing refers to the mapping any more.
-        unsafe { system::munmap(self.first.cast(), self.room + PAGE) };
+/// Whether a call touches what it may not, in a process of its own.
+pub fn faults(call: impl FnOnce()) -> bool {
+    let mut status = 0;
+    // SAFETY: the new process makes the call, which allocates nothing and takes
+    // no lock, and ends.
+    unsafe {
+        let process = system::fork();
+        if process == 0 {
+            call();
+            system::_exit(0);
+        }
+        assert_eq!(system::waitpid(process, &mut status, 0), process);
     }
+    status & 0x7f == system::SIGSEGV
 }
-
-// SAFETY: the memory is the value's own, as that of a Box is.
-unsafe impl Send for Edge {}
-// SAFETY: what is shared only tells where the page is.
-unsafe impl Sync for Edge {}
 
 /// What is told of a fault before it ends the process.
 static REPORT: OnceLock<fn()> = OnceLock::new();

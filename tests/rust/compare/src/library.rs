@@ -24,20 +24,24 @@ pub enum Stand {
 }
 
 impl Stand {
-    /// How many canaries are behind the buffer with this index. The first three
-    /// and the lengths hold numbers, which are aligned.
+    /// How many canaries are behind the buffer with this index. Where buffers
+    /// hold numbers of 64 bits, they are aligned.
     fn behind(self, index: usize) -> usize {
         match self {
             Stand::AtThePage => 0,
-            Stand::AmongCanaries(_) if index < 3 || index == LENGTHS => WIDTH,
+            Stand::AmongCanaries(_) if index < NUMBERS || index == LENGTHS => WIDTH,
             Stand::AmongCanaries(lead) => WIDTH + (lead + 5 * index) % 16,
         }
     }
 }
 
-/// How many buffers may be written: count, offset, n, state, output, tag,
+/// How many buffers may be written and hold one number of 64 bits: count, offset,
+/// n, bound and greatest, in this order, before all others.
+const NUMBERS: usize = 5;
+
+/// How many buffers may be written: behind those numbers state, output, tag,
 /// verdict and sum, in this order. What is only read follows them.
-const WRITTEN: usize = 8;
+const WRITTEN: usize = NUMBERS + 5;
 
 /// The lengths of a join, of which every other call has none.
 const LENGTHS: usize = WRITTEN;
@@ -63,12 +67,21 @@ impl Call {
     /// and inputs afterwards.
     pub fn by_library(&self, before: &Lent, stand: Stand) -> Result<Outcome, String> {
         let (_, inputs, _) = self.parts();
-        let [count, offset, n] = [before.count, before.offset, before.n].map(u64::to_ne_bytes);
+        let numbers = [
+            before.count,
+            before.offset,
+            before.n,
+            before.bound,
+            before.greatest,
+        ];
+        let numbers = numbers.map(u64::to_ne_bytes);
         let lengths = self.lengths();
         let mut lent: Vec<(&'static str, &[u8])> = vec![
-            ("count", &count),
-            ("offset", &offset),
-            ("n", &n),
+            ("count", &numbers[0]),
+            ("offset", &numbers[1]),
+            ("n", &numbers[2]),
+            ("bound", &numbers[3]),
+            ("greatest", &numbers[4]),
             ("state", &before.state),
             ("out", &before.out),
             ("tag", &before.tag),
@@ -101,8 +114,9 @@ impl Call {
     /// The library's answer to the call on these buffers, pointer and length of
     /// each, the other inputs in the order of `parts`.
     unsafe fn answered(&self, lent: &[(*mut u8, usize)]) -> u64 {
-        let [count, offset, n] = [0, 1, 2].map(|i| lent[i].0.cast::<u64>());
-        let [(state, _), (out, room), (verdict, _), (sum, _)] = [3, 4, 6, 7].map(|i| lent[i]);
+        let [count, offset, n, bound, greatest] = std::array::from_fn(|i| lent[i].0.cast::<u64>());
+        let [(state, _), (out, room), tag, (verdict, _), (sum, _)] =
+            std::array::from_fn(|i| lent[NUMBERS + i]);
         let at = |i: usize| lent[OTHERS + i].0.cast_const();
         let len = |i: usize| lent[OTHERS + i].1;
         match self {
@@ -119,7 +133,7 @@ impl Call {
                 c::armfile_gmac(at(0), len(0), at(1), len(1), at(2), len(2), out, room)
             }
             Call::GcmEncrypt { .. } | Call::GcmDecrypt { .. } => {
-                gcm_answered([lent[4], lent[5]], &lent[OTHERS..])
+                gcm_answered([(out, room), tag], &lent[OTHERS..])
             }
             Call::Start {
                 arm, last, n, fill, ..
@@ -135,6 +149,9 @@ impl Call {
             Call::DropFront { .. } => c::armfile_drop_front(state, at(0), len(0), count),
             Call::CutTail { .. } => c::armfile_cut_tail(state, at(0), len(0), count),
             Call::Replay { .. } => c::armfile_replay(state, at(0), len(0), count, offset),
+            Call::Forecast { n, .. } => {
+                c::armfile_forecast(*n, at(0), len(0), bound, greatest, offset)
+            }
             Call::Seal => c::armfile_seal(state, out, room),
             Call::Check { .. } => c::armfile_check(state, at(0), len(0), verdict),
         }
@@ -160,19 +177,22 @@ fn left(guarded: &mut [Guarded], inputs: &[(&'static str, &[u8])]) -> Result<Len
     for (input, (_, bytes)) in read.iter_mut().zip(inputs) {
         input.unaltered(bytes)?;
     }
-    let number = |guarded: &mut Guarded| {
-        let bytes = guarded.after()?.try_into().expect("8 bytes");
+    let (numbers, others) = written.split_at_mut(NUMBERS);
+    let mut number = |i: usize| {
+        let bytes = numbers[i].after()?.try_into().expect("8 bytes");
         Ok::<u64, String>(u64::from_ne_bytes(bytes))
     };
     Ok(Lent {
-        count: number(&mut written[0])?,
-        offset: number(&mut written[1])?,
-        n: number(&mut written[2])?,
-        state: written[3].after()?.try_into().expect("84 bytes"),
-        out: written[4].after()?.to_vec(),
-        tag: written[5].after()?.to_vec(),
-        verdict: written[6].after()?[0],
-        sum: written[7].after()?.try_into().expect("16 bytes"),
+        count: number(0)?,
+        offset: number(1)?,
+        n: number(2)?,
+        bound: number(3)?,
+        greatest: number(4)?,
+        state: others[0].after()?.try_into().expect("84 bytes"),
+        out: others[1].after()?.to_vec(),
+        tag: others[2].after()?.to_vec(),
+        verdict: others[3].after()?[0],
+        sum: others[4].after()?.try_into().expect("16 bytes"),
     })
 }
 

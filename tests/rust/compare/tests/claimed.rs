@@ -10,15 +10,14 @@ use std::sync::OnceLock;
 
 use armfile::ffi::c;
 use armfile::{MAX_BYTES, MAX_JOURNAL_BYTES, MAX_TEXT_BYTES, SLIP_BYTES};
-use compare::edge::Edge;
+use compare::edge::{faults, Edge};
 use reference::calls::{block_refusal, gcm_refusal, ghash_refusal, gmac_refusal};
 use reference::join;
 use reference::journal::{
     replay_refusal, Edit, Head, APPEND, CHANGE, CUT_TAIL, DROP_FRONT, PREPEND,
 };
 use reference::refusal::{
-    refuse, too_long, whole_sum, BAD_BUFFER, BAD_VERSION, NOT_SIXTEEN, NOT_WHOLE, OUTSIDE,
-    TOO_LONG, UNEQUAL, USED_UP, WRONG_TAG,
+    refuse, too_long, BAD_BUFFER, BAD_VERSION, NOT_SIXTEEN, TOO_LONG, UNEQUAL, USED_UP, WRONG_TAG,
 };
 use reference::State;
 
@@ -77,19 +76,6 @@ const TRUE: usize = 64;
 /// What those bytes are.
 const FILL: u8 = 0x5e;
 
-/// The C library's own, which the standard library links.
-mod system {
-    use std::ffi::c_int;
-
-    extern "C" {
-        pub fn fork() -> c_int;
-        pub fn waitpid(process: c_int, status: *mut c_int, options: c_int) -> c_int;
-        pub fn _exit(status: c_int) -> !;
-    }
-
-    pub const SIGSEGV: c_int = 11;
-}
-
 /// A page that may be neither read nor written. Bytes for the true lengths end
 /// at it.
 fn forbidden() -> *mut u8 {
@@ -124,6 +110,8 @@ struct Lent {
     tag: [u8; TRUE],
     count: u64,
     offset: u64,
+    bound: u64,
+    greatest: u64,
     verdict: u8,
 }
 
@@ -141,6 +129,8 @@ impl Lent {
             tag: [0xee; TRUE],
             count: 0xeeee,
             offset: 0xeeee,
+            bound: 0xeeee,
+            greatest: 0xeeee,
             verdict: 0xee,
         }
     }
@@ -197,18 +187,9 @@ fn expect_left(
 /// Whether a call touches the page, in a process of its own.
 fn ends_by_the_page(call: impl FnOnce() -> u64) -> bool {
     forbidden(); // so that the new process need not wait for who makes it
-    let mut status = 0;
-    // SAFETY: the new process makes the call, which allocates nothing and
-    // takes no lock, and ends.
-    unsafe {
-        let process = system::fork();
-        if process == 0 {
-            call();
-            system::_exit(0);
-        }
-        assert_eq!(system::waitpid(process, &mut status, 0), process);
-    }
-    status & 0x7f == system::SIGSEGV
+    faults(|| {
+        call();
+    })
 }
 
 fn wide(length: usize) -> u64 {
@@ -412,19 +393,9 @@ fn states() {
 type EndEdit = unsafe extern "C" fn(*mut u8, *const u8, usize, *mut u64) -> u64;
 
 /// The refusal of an edit, by its kind in a journal, from its place and the
-/// number of its bytes alone.
+/// number of its bytes alone. Both may be larger than a record can hold.
 fn edit_refusal(kind: u64, n: u64, p: u64, l: u64) -> Result<(), u64> {
-    let past = (too_long(n.into()), TOO_LONG);
-    let grown = (too_long(whole_sum(n, l)), TOO_LONG);
-    let broken = (!l.is_multiple_of(16), NOT_WHOLE);
-    let outside = (whole_sum(p, l) > n.into(), OUTSIDE);
-    match kind {
-        APPEND => refuse(&[past, grown]),
-        PREPEND => refuse(&[past, broken, grown]),
-        DROP_FRONT => refuse(&[past, broken, outside]),
-        CHANGE | CUT_TAIL => refuse(&[past, outside]),
-        _ => panic!("{kind} is no edit's kind"),
-    }
+    Head { kind, p, l }.edit_refusal(n)
 }
 
 #[test]
@@ -479,8 +450,9 @@ fn changes() {
     }
 }
 
-/// A replay of a journal of which no byte is there. One that is too long leaves
-/// the state, and is at its first byte.
+/// A replay and a forecast of a journal of which no byte is there. One that is
+/// too long leaves the state, and is at its first byte, with the file's length
+/// the greatest.
 #[test]
 fn journals() {
     let limit = MAX_JOURNAL_BYTES as usize;
@@ -499,6 +471,17 @@ fn journals() {
             expect_left(&name, expected, length > TRUE, [&lent, &left], |lent| {
                 replay(lent, input(length), length)
             });
+            let (bound, greatest) = (0, n);
+            let left = Lent {
+                bound,
+                greatest,
+                offset,
+                ..lent.clone()
+            };
+            let name = format!("forecast of {length} bytes, file of {n}");
+            expect_left(&name, expected, length > TRUE, [&lent, &left], |lent| {
+                forecast(lent, n, input(length), length)
+            });
         }
     }
 }
@@ -507,6 +490,12 @@ fn replay(lent: &mut Lent, journal: *const u8, length: usize) -> u64 {
     let (state, count, offset) = (lent.state.as_mut_ptr(), &mut lent.count, &mut lent.offset);
     // SAFETY: what is claimed is on the forbidden page.
     unsafe { c::armfile_replay(state, journal, length, count, offset) }
+}
+
+fn forecast(lent: &mut Lent, n: u64, journal: *const u8, length: usize) -> u64 {
+    let (bound, greatest) = (&mut lent.bound, &mut lent.greatest);
+    // SAFETY: what is claimed is on the forbidden page.
+    unsafe { c::armfile_forecast(n, journal, length, bound, greatest, &mut lent.offset) }
 }
 
 /// Records of which only the head is there, after one that is whole or after
@@ -548,7 +537,7 @@ fn one_record(edge: &mut Edge, n: u64, done: &[u8], head: Head) {
     for remain in [body.saturating_sub(1), body, body + 1, all] {
         let expected = head
             .refusal(remain)
-            .and_then(|()| edit_refusal(head.kind, state.n, head.p, head.l));
+            .and_then(|()| head.edit_refusal(state.n));
         let name = format!("replay of {head:?} before {remain} bytes, file of {n}");
         expect_left(&name, expected, head.l > 0, [&lent, &left], |lent| {
             replay(lent, journal, there.len() + remain as usize)

@@ -5,7 +5,7 @@
 #![forbid(unsafe_code)]
 
 use armfile::Refusal::JournalLength;
-use armfile::{ffi, Part, Replayed, State};
+use armfile::{ffi, Forecast, Part, Replayed, State};
 use reference::field::{add, multiply, power, seek_steps, Block, ZERO};
 use reference::ghash::{block_count, blocks_of, hash_key, pair_block};
 use reference::journal::Edit;
@@ -87,7 +87,8 @@ fn carried(key: &Block, first_counter: &Block, bytes: &[u8]) {
     assert_eq!(tag, expected, "a ciphertext's tag");
 }
 
-/// A journal that appends such bytes to an empty file and has one byte more.
+/// A journal that appends such bytes to an empty file and has one byte more, and
+/// its forecast, by document 01's q + 2b.
 fn replayed(key: &[u8], bytes: &[u8], expected: &state::State) {
     let mut journal = Edit::Append(bytes.to_vec()).pack();
     journal.push(0);
@@ -98,6 +99,13 @@ fn replayed(key: &[u8], bytes: &[u8], expected: &state::State) {
         offset: 12 + expected.n,
         refusal: Some(JournalLength),
     };
+    let told = Forecast {
+        bound: m + 2 * u64::from(u64::BITS - m.leading_zeros()),
+        greatest: expected.n,
+        offset: outcome.offset,
+        refusal: outcome.refusal,
+    };
+    assert_eq!(held.forecast(&journal), told);
     assert_eq!(held.replay(&journal), outcome);
     assert_eq!(held.as_bytes(), &expected.state_bytes(), "a journal");
 }

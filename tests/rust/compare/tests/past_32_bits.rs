@@ -14,7 +14,7 @@ use std::time::Instant;
 use compare::edge::Edge;
 use reference::journal::{Head, APPEND, CHANGE, CUT_TAIL, DROP_FRONT, HEAD_BYTES, PREPEND};
 use reference::random::Random;
-use reference::{gcm, ghash, join, State};
+use reference::{forecast, gcm, ghash, join, State};
 
 /// More bytes than 32 bits count, and no whole number of blocks.
 const LONG: usize = (1 << 32) + 1_021;
@@ -66,7 +66,7 @@ fn heads(n: u64) -> [Head; 8] {
     .map(|(kind, p, l)| Head { kind, p, l })
 }
 
-/// A journal of n bytes and more.
+/// A journal of n bytes and more, forecast and replayed.
 fn replay(n: u64) {
     let lengths = heads(n).map(|head| HEAD_BYTES + head.body() as usize);
     let length = lengths.iter().sum();
@@ -80,6 +80,7 @@ fn replay(n: u64) {
     }
     let (mut held, _) = armfile::State::start(&key, 5, 6, 40, 0xff).expect("a state");
     let mut expected = State::from_state_bytes(held.as_bytes());
+    let (told, foretold) = (held.forecast(journal), forecast::forecast(40, journal));
     let by_library = timed("replayed by the library", || held.replay(journal));
     let replayed = timed("replayed by the second implementation", || {
         expected.replay(journal)
@@ -92,6 +93,11 @@ fn replay(n: u64) {
     assert_eq!(held.as_bytes(), &expected.state_bytes());
     assert_eq!(number, Some(5));
     assert!(by_library.offset > n);
+    let stop = (by_library.offset, by_library.refusal);
+    assert_eq!((told.offset, told.refusal), stop);
+    let bounds = (foretold.bound, foretold.greatest);
+    assert_eq!((told.bound, told.greatest), bounds);
+    assert!(by_library.count <= told.bound);
 }
 
 /// A text of n bytes, decrypted; under a wrong tag it isn't.

@@ -47,6 +47,20 @@ pub fn read_file(case: &mut Case, n: usize) -> (Lent, Machine) {
     (lent, machine)
 }
 
+/// The state of a blank file of n bytes.
+pub fn blank_file(case: &mut Case, n: u64) -> Lent {
+    let mut lent = Lent::new();
+    let start = Call::Start {
+        key: case.random.bytes(16),
+        arm: 3,
+        last: 4,
+        n,
+        fill: case.random.some_fill(),
+    };
+    assert_eq!(case.call(&start, &mut lent), 0);
+    lent
+}
+
 /// The edits at the ends with l bytes, true ones where they are removed.
 pub fn true_edits(case: &mut Case, file: &[u8], l: usize) -> [Call; 4] {
     let given = case.random.bytes(l);

@@ -1,4 +1,4 @@
-//! Replay of journals, document 02, Q-1.
+//! Replay of journals, document 02, Q-1. Each is forecast first, Q-7.
 
 use armfile::MAX_BYTES;
 use compare::call::UNWRITTEN;
@@ -7,7 +7,7 @@ use reference::journal::{Head, CHANGE, HEAD_BYTES};
 use reference::Machine;
 
 use crate::choose::{one_of, FILE_LENGTHS};
-use crate::edits::{by_machine, read_file, true_edits};
+use crate::edits::{blank_file, by_machine, read_file, true_edits};
 use crate::lists::some_recorded_edit;
 use crate::states::arbitrary_state;
 
@@ -95,15 +95,8 @@ pub fn of_edits(case: &mut Case) {
 
 /// Journals on a file so long that a record may be refused for its growth.
 pub fn on_a_long_file(case: &mut Case) {
-    let mut before = Lent::new();
-    let start = Call::Start {
-        key: case.random.bytes(16),
-        arm: 3,
-        last: 4,
-        n: MAX_BYTES - case.random.below(200),
-        fill: case.random.some_fill(),
-    };
-    assert_eq!(case.call(&start, &mut before), 0);
+    let n = MAX_BYTES - case.random.below(200);
+    let before = blank_file(case, n);
     let edits = some_edits(case, &before, None);
     as_single_calls(case, &before, &edits);
 }

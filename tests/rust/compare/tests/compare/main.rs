@@ -7,6 +7,7 @@ mod blanks;
 mod blocks;
 mod choose;
 mod edits;
+mod forecasts;
 mod gcm;
 mod joins;
 mod journals;
@@ -93,6 +94,19 @@ const PARTS: &[Part] = &[
     ("joins of long parts", 540, joins::of_long_parts),
     ("joins, wrong lengths", 13, joins::of_wrong_lengths),
     ("joins, sets of causes", 16, joins::of_sets_of_causes),
+    (
+        "forecasts of every small edit",
+        50,
+        forecasts::of_every_small_edit,
+    ),
+    (
+        "forecasts around powers of two",
+        58,
+        forecasts::around_powers_of_two,
+    ),
+    ("forecasts of any length", 200, forecasts::of_any_length),
+    ("forecasts, other bodies", 500, forecasts::of_other_bodies),
+    ("a forecast of many records", 1, forecasts::of_many_records),
 ];
 
 fn main() {
