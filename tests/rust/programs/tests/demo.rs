@@ -6,6 +6,8 @@ use std::fs::File;
 use std::process::{Command, Stdio};
 
 use reference::blank;
+use reference::forecast;
+use reference::journal::Edit;
 use reference::machine::Machine;
 use reference::Verdict::{self, Ahead, Current, NotGenuine, Stale};
 
@@ -28,6 +30,19 @@ fn replay(text: &mut String, name: &str, machine: &Machine, count: u64, stop: &s
     let n = machine.n();
     text.push_str(&format!(
         "{name}: length {n}, sum {sum}, count {count}{stop}\n"
+    ));
+}
+
+/// The forecast of a journal for the file that the machine holds.
+fn forecast(text: &mut String, name: &str, machine: &Machine, journal: &[u8]) {
+    let told = forecast::forecast(machine.n(), journal);
+    let stop = match told.refusal {
+        Some(number) => format!("refused {number}"),
+        None => "done".to_string(),
+    };
+    let (bound, greatest, offset) = (told.bound, told.greatest, told.offset);
+    text.push_str(&format!(
+        "{name}: bound {bound}, greatest length {greatest}, {stop} at {offset}\n"
     ));
 }
 
@@ -64,15 +79,31 @@ fn edited(text: &mut String) -> Machine {
     step(text, "prepend 16 bytes", &machine, count);
     let count = machine.cut_tail(b"er A").unwrap();
     step(text, "cut 4 bytes", &machine, count);
+    replayed(text, &mut machine);
+    machine
+}
+
+/// A journal of two records, cut short by its last byte, and then whole. What is
+/// forecast of it is for the file of before, each time.
+fn replayed(text: &mut String, machine: &mut Machine) {
+    let before = machine.clone();
+    let change = Edit::Change {
+        p: 31,
+        old: b"new".to_vec(),
+        new: b"now".to_vec(),
+    };
+    let journal = [change.pack(), Edit::Append(b"er B".to_vec()).pack()].concat();
+    let (_, cut) = journal.split_last().unwrap();
+    forecast(text, "forecast a journal cut short", &before, cut);
     // Of the journal cut short the second record is refused; it begins behind
     // a head of 12 bytes, 3 old ones and 3 new ones.
     let first = machine.change(31, b"new", b"now").unwrap();
     let stop = ", refused 10 at 18";
-    replay(text, "replay a journal cut short", &machine, first, stop);
+    replay(text, "replay a journal cut short", machine, first, stop);
+    forecast(text, "forecast the whole journal", &before, &journal);
     let count = first + machine.append(b"er B").unwrap();
     let stop = ", done at 34";
-    replay(text, "replay the whole journal", &machine, count, stop);
-    machine
+    replay(text, "replay the whole journal", machine, count, stop);
 }
 
 /// Sealed, changed and sealed, changed back and sealed. Returns the last slip.
