@@ -7,9 +7,12 @@
  *
  * Secret: keys, H, I, S, of parts too, blocks, the bytes of files, in a journal too, and GCM's texts, associated data and ciphertexts. Public:
  * lengths, of parts too, places, a blank file's fill byte, arm and seal numbers, nonces, slips, the heads of a journal's records, whose kind, p
- * and l decide what is done, and every answer, count, offset and verdict. Answers, counts, offsets and the length of joined parts must come out
- * defined by themselves, but for a decryption's answer. A tag is published by the call that makes it, and is declared public after that call,
- * not before.
+ * and l decide what is done, and every answer, count, offset, forecast and verdict. Answers, counts, offsets, forecasts and the length of joined
+ * parts must come out defined by themselves, but for a decryption's answer. A tag is published by the call that makes it, and is declared public
+ * after that call, not before.
+ *
+ * A forecast reads no byte between the heads, and none behind the head of a refused record. So it is also made where memcheck takes these bytes to be
+ * no memory at all, and reports every read of one.
  *
  * Whether a slip's tag fits is found inside check, and is public since the verdict tells it. So check may jump on that, and on nothing less:
  * each check that comes to compare tags makes at most one report, the jump, and its verdict then comes out defined, since by that jump and the
@@ -19,11 +22,11 @@
  *
  * Each call is made on plain data too, and must give the same bytes.
  *
- * ct field    multiply, GHASH, join, a state's fields, the five edits and replay, which use no cipher
+ * ct field    multiply, GHASH, join, a state's fields, the five edits, replay and forecast, which use no cipher
  * ct cipher   encrypt, GMAC, GCM encryption, start, read and seal
  * ct check    check
  * ct decrypt  GCM decryption
- * ct branch, ct index    deliberate faults, which must be reported
+ * ct branch, ct index, ct barred    deliberate faults, which must be reported
  * ct move     a conditional move, which is no fault
  */
 #include "armfile.h"
@@ -65,6 +68,9 @@ static void fail(const char *what) {
 static void hide(void *bytes, size_t n) { (void)VALGRIND_MAKE_MEM_UNDEFINED(bytes, n); }
 
 static void reveal(void *bytes, size_t n) { (void)VALGRIND_MAKE_MEM_DEFINED(bytes, n); }
+
+/* From here on the bytes are no memory: every read of one is reported, until they are revealed. */
+static void bar(void *bytes, size_t n) { (void)VALGRIND_MAKE_MEM_NOACCESS(bytes, n); }
 
 /* Whether every bit of the bytes is defined (which 0) or undefined (which 0xff). */
 static int all_bits(const void *bytes, size_t n, unsigned char which) {
@@ -287,7 +293,43 @@ static void add_record(struct journal *journal, uint64_t kind, uint64_t p, size_
     journal->first[++journal->records] = journal->length;
 }
 
-/* A replay of the journal's first bytes. The heads stay public, and what stands between them is hidden. */
+/* Hides or bars what stands between the heads. */
+static void mark_bodies(struct journal *journal, void (*mark)(void *, size_t)) {
+    for (size_t i = 0; i < journal->records; i++)
+        mark(journal->bytes + journal->first[i] + HEAD, journal->first[i + 1] - journal->first[i] - HEAD);
+}
+
+/* What a forecast tells. */
+struct forecast {
+    uint64_t bound, greatest, offset;
+};
+
+static struct forecast ask(uint64_t n, const struct journal *journal, size_t length, uint64_t answer) {
+    struct forecast told;
+    hide(&told, sizeof told);
+    answered(armfile_forecast(n, journal->bytes, length, &told.bound, &told.greatest, &told.offset), answer);
+    must_be_public(&told, sizeof told, "a forecast depends on a secret, or is not written");
+    return told;
+}
+
+/* Forecasts of the journal's first bytes, which answer and stop as its replay did: with what stands between the heads hidden, and with that barred,
+ * and all that stands behind the head of a refused record. */
+static void one_forecast(uint64_t n, struct journal *journal, size_t length, uint64_t answer, uint64_t offset) {
+    size_t behind = offset + HEAD < length ? offset + HEAD : length;
+    struct forecast plain = ask(n, journal, length, answer), told;
+    if (plain.offset != offset)
+        fail("a forecast and a replay stop at different records");
+    mark_bodies(journal, hide);
+    told = ask(n, journal, length, answer);
+    must_be_same(&told, &plain, sizeof told, "another forecast");
+    mark_bodies(journal, bar);
+    bar(journal->bytes + behind, journal->length - behind);
+    told = ask(n, journal, length, answer);
+    must_be_same(&told, &plain, sizeof told, "another forecast");
+    reveal(journal->bytes, journal->length);
+}
+
+/* A replay of the journal's first bytes, and a forecast of it before. The heads stay public, and what stands between them is hidden. */
 static void one_replay(uint64_t n, struct journal journal, size_t length) {
     uint8_t state[STATE], plain[STATE];
     uint64_t count, offset, plain_count, plain_offset;
@@ -295,9 +337,9 @@ static void one_replay(uint64_t n, struct journal journal, size_t length) {
     memcpy(plain, state, STATE);
     uint64_t expected = armfile_replay(plain, journal.bytes, length, &plain_count, &plain_offset);
     calls++;
+    one_forecast(n, &journal, length, expected, plain_offset);
     hide(state, SECRET_STATE);
-    for (size_t i = 0; i < journal.records; i++)
-        hide(journal.bytes + journal.first[i] + HEAD, journal.first[i + 1] - journal.first[i] - HEAD);
+    mark_bodies(&journal, hide);
     answered(armfile_replay(state, journal.bytes, length, &count, &offset), expected);
     must_be_public(&offset, sizeof offset, "an offset depends on a secret");
     if (offset != plain_offset)
@@ -625,14 +667,21 @@ static void on_gcm_decrypt(void) {
 static volatile uint8_t table[256];
 static volatile unsigned sink;
 
-static void fault(int index) {
+enum faults { BRANCH, INDEX, BARRED };
+
+static void fault(enum faults which) {
     uint8_t key[16];
     fill(key, 16);
     hide(key, 16);
-    if (index)
+    if (which == BARRED) {
+        bar(key + 3, 1);
+        sink = key[3];
+        reveal(key + 3, 1);
+    } else if (which == INDEX) {
         sink = table[key[3]];
-    else if (key[3] & 1)
+    } else if (key[3] & 1) {
         sink = 1;
+    }
 }
 
 /* A conditional move on a secret bit: no report, and what it chose is secret. */
@@ -671,13 +720,15 @@ int main(int argc, char **argv) {
     } else if (strcmp(part, "decrypt") == 0) {
         on_gcm_decrypt();
     } else if (strcmp(part, "branch") == 0) {
-        fault(0);
+        fault(BRANCH);
     } else if (strcmp(part, "index") == 0) {
-        fault(1);
+        fault(INDEX);
+    } else if (strcmp(part, "barred") == 0) {
+        fault(BARRED);
     } else if (strcmp(part, "move") == 0) {
         move();
     } else {
-        fail("ct field, cipher, check, decrypt, branch, index or move");
+        fail("ct field, cipher, check, decrypt, branch, index, barred or move");
     }
     printf("ct %s: %u calls\n", part, calls);
     return 0;

@@ -5,9 +5,10 @@
  * caller's own. Only bytes that are written count; what the lowest frame reserves at its end and never writes does not.
  *
  * It is an error where a call is refused, where it does not take the same at every length above 0, and where it takes more at length 0. A join's
- * length is its number of parts. Edits and a join may take less where they need no power of H. Calls that hash a whole input may take another figure
- * below 512 bytes than from there on, where they go by batches, and another where nothing is left behind the batches; and GCM by the way in which it
- * makes the last bytes of a text. The largest is told, and where a call takes less at every length below 512, behind it the largest of those. */
+ * length is its number of parts, and that of a replay or a forecast the length of each edit. Edits and a join may take less where they need no power
+ * of H. Calls that hash a whole input may take another figure below 512 bytes than from there on, where they go by batches, and another where nothing
+ * is left behind the batches; and GCM by the way in which it makes the last bytes of a text. The largest is told, and where a call takes less at
+ * every length below 512, behind it the largest of those. */
 #define _XOPEN_SOURCE 700
 #include <pthread.h>
 #include <stdio.h>
@@ -40,7 +41,7 @@ static uint8_t sums[16 * MOST];
 static uint64_t parts[MOST], total;
 static uint8_t journal[5 * HEAD + 6 * (MOST + 16)];
 static size_t journal_len;
-static uint64_t count, offset;
+static uint64_t count, offset, bound, greatest;
 static const uint8_t verdicts[] = { ARMFILE_AHEAD, ARMFILE_CURRENT, ARMFILE_STALE };
 
 /* A call at a length, from a frame so large that the paint, which ends below the frame of the code that paints, covers its end. The room
@@ -75,6 +76,7 @@ CALL(prepend, armfile_prepend(state, file, WHOLE(n), &count))
 CALL(drop_front, armfile_drop_front(state, file, WHOLE(n), &count))
 CALL(cut_tail, armfile_cut_tail(state, file, n, &count))
 CALL(replay, armfile_replay(state, journal, journal_len, &count, &offset))
+CALL(forecast, armfile_forecast((uint64_t)n << 40, journal, journal_len, &bound, &greatest, &offset))
 CALL(seal, armfile_seal(state, slip, sizeof slip))
 CALL(check, armfile_check(state, slip, sizeof slip, &verdict) || verdict != verdicts[LAST(n)])
 
@@ -92,7 +94,7 @@ static const struct {
 	{ "read", read_file, HASHING }, { "length", length, NOTHING }, { "arm", arm, NOTHING }, { "last", last, NOTHING },
 	{ "sum", sum, NOTHING }, { "hash_key", hash_key, NOTHING }, { "change", change, POWERS }, { "append", append, POWERS },
 	{ "prepend", prepend, POWERS }, { "drop_front", drop_front, POWERS }, { "cut_tail", cut_tail, POWERS }, { "replay", replay, NOTHING },
-	{ "seal", seal, NOTHING }, { "check", check, NOTHING },
+	{ "forecast", forecast, NOTHING }, { "seal", seal, NOTHING }, { "check", check, NOTHING },
 };
 
 /* Lengths of five kinds. Below 512 bytes an input is hashed block by block, and from there on by batches of 256 and what is left block by block.
