@@ -20,6 +20,7 @@
  *  - change 1, change 4096: armfile_change of that many bytes at place 0 of a file of n zero bytes. start (of n zero bytes too), read, seal,
  *    check: the calls.
  *  - join: armfile_join of the parts of 1 MiB that n bytes have. Most of their sums are of chance, since no part is read.
+ *  - forecast, replay: of a journal of appends of 4 KiB, n bytes in all, to a file of n zero bytes.
  *
  * BearSSL's counter mode and GCM work in place.
  *
@@ -58,6 +59,9 @@
 #define LONGEST ((size_t)16 << 20)
 #define PART ((size_t)1 << 20)
 #define PARTS 1000
+#define HEAD 12 /* a record's: kind, place and length */
+#define RECORD 4096
+#define RECORDS 1000
 #define JOBS 512
 
 /*
@@ -83,6 +87,8 @@ static uint8_t state[ARMFILE_STATE_BYTES], sealed[ARMFILE_STATE_BYTES], slip[ARM
 static uint64_t refused, products; /* refused: whether any call was */
 static uint8_t part_h[16], sums[16 * PARTS];
 static uint64_t part_lengths[PARTS], total;
+static uint8_t journal[RECORDS * (HEAD + RECORD)];
+static uint64_t bound, greatest, offset;
 
 static void own_ghash(void) { refused |= armfile_ghash(h, 16, text, given->n, text, 0, tag, 16); }
 static void own_gmac(void) { refused |= armfile_gmac(key, 16, nonce, 12, text, given->n, tag, 16); }
@@ -118,6 +124,12 @@ static void own_join(void)
 	size_t parts = given->n / PART;
 
 	refused |= armfile_join(part_h, 16, sums, 16 * parts, part_lengths, parts, tag, &total);
+}
+static void own_forecast(void) { refused |= armfile_forecast(given->n, journal, sizeof journal, &bound, &greatest, &offset); }
+static void own_replay(void)
+{
+	memcpy(state, given->state, sizeof state);
+	refused |= armfile_replay(state, journal, sizeof journal, &products, &offset);
 }
 
 /* ---- BearSSL */
@@ -462,11 +474,12 @@ static const struct { const char *name; const size_t *sizes; } ops[OPS] = {
 	[ENCRYPT] = {"encrypt", some}, [DECRYPT] = {"decrypt", some}, [REFUSAL] = {"refusal", some},
 };
 
-static const size_t first_page[] = {1 << 10, 0}, files[] = {1 << 10, 1 << 20, 0}, joined[] = {PARTS * PART, 0};
+static const size_t first_page[] = {1 << 10, 0}, files[] = {1 << 10, 1 << 20, 0}, joined[] = {PARTS * PART, 0}, journals[] = {RECORDS * RECORD, 0};
 static const size_t lengths[] = {1 << 10, 1 << 15, 1 << 20, 1 << 25, 1 << 30, (size_t)1 << 35, (size_t)1 << 40, 0};
 static const struct { const char *name; call *run; const size_t *sizes; } own[] = {
 	{"change 1", own_change_1, lengths}, {"change 4096", own_change_4096, lengths + 1}, {"start", own_start, first_page},
 	{"read", own_read, files}, {"seal", own_seal, first_page}, {"check", own_check, first_page}, {"join", own_join, joined},
+	{"forecast", own_forecast, journals}, {"replay", own_replay, journals},
 };
 #define OWN (sizeof own / sizeof own[0])
 
@@ -597,6 +610,31 @@ static void check_join(void)
 	agree(!refused && !memcmp(tag, sum, 16) && total == LONGEST, "itself", "joined parts and the whole", LONGEST);
 }
 
+/* The journal appends text to a file of as many zero bytes. Its replay gives the state of the file with the text behind it, in no more products
+ * than were forecast, and at the forecast's greatest length. */
+static void check_journal(void)
+{
+	const size_t n = RECORDS * RECORD;
+	uint8_t whole[ARMFILE_STATE_BYTES];
+	static struct given g;
+
+	for (size_t i = 0; i < RECORDS; i++) {
+		uint8_t *record = journal + i * (HEAD + RECORD);
+
+		record[0] = 2 << 5; /* the kind: an append */
+		record[10] = RECORD >> 8;
+		memcpy(record + HEAD, text + i * RECORD, RECORD);
+	}
+	give(&g, n);
+	given = &g;
+	own_forecast();
+	own_replay();
+	memset(out, 0, n);
+	memcpy(out + n, text, n);
+	refused |= armfile_read(key, 16, 7, 0, out, 2 * n, whole);
+	agree(!refused && !memcmp(state, whole, sizeof state) && products <= bound && greatest == 2 * n, "itself", "a journal and its forecast", n);
+}
+
 /* ---- times */
 
 static struct job {
@@ -651,7 +689,7 @@ static void list(void)
 					put(ops[op].name, label(p, op), p->calls[op], p, *n, *n);
 	for (size_t i = 0; !masked && i < OWN; i++)
 		for (const size_t *n = own[i].sizes; *n; n++)
-			put(own[i].name, peers[0].name, own[i].run, peers, *n, own[i].run == own_read ? *n : 0);
+			put(own[i].name, peers[0].name, own[i].run, peers, *n, own[i].run == own_read || own[i].run == own_replay ? *n : 0);
 }
 
 static int compare(const void *a, const void *b)
@@ -681,6 +719,7 @@ int main(int argc, char **argv)
 			check_change(own_change_4096, 4096, *n);
 	}
 	check_join();
+	check_journal();
 	refused |= armfile_start(key, 16, 7, 0, 1 << 10, 0, sealed, &products);
 	list();
 	for (int round = 0; round < ROUNDS; round++)

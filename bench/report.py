@@ -14,6 +14,7 @@ OWN = "this library"
 SIZES = [16, 64, 1 << 10, 1 << 16, 1 << 24]
 FILES = [1 << 10, 1 << 20, 1 << 30, 1 << 40]
 JOINED = 1000 << 20  # in parts of 1 MiB
+JOURNAL = 1000 << 12  # in records of 4 KiB
 HARDWARE = ["OpenSSL", "nettle", "libgcrypt", "mbedTLS"]  # peers that choose their path by themselves
 BEGIN, END = "<!-- recorded by bench/run --record: begin -->", "<!-- recorded by bench/run --record: end -->"
 NONE = "—"
@@ -167,6 +168,14 @@ def joins(run):
     return markdown(["parts", "join", "spread", "hashing them again", "by the join's"], [row])
 
 
+def forecasts(run):
+    row = [f"{grouped(JOURNAL >> 12)} of 4 KiB"]
+    for what in ["forecast", "replay"]:
+        row += [duration(run.best(what, JOURNAL, OWN)), f"{100 * run.spread(what, JOURNAL, OWN):.0f} %"]
+    row.append(grouped(run.best("replay", JOURNAL, OWN) / run.best("forecast", JOURNAL, OWN)))
+    return markdown(["appends", "forecast", "spread", "replay", "spread", "by the forecast's"], [row])
+
+
 def calls(run):
     asked = [("start", 1 << 10, "start"), ("seal", 1 << 10, "seal"), ("check", 1 << 10, "check"), ("read of 1 KiB", 1 << 10, "read"),
              ("read of 1 MiB", 1 << 20, "read")]
@@ -191,6 +200,7 @@ def tables(runs, machine):
         ("GCM decryption; ratio to BearSSL aes_ct64 + ctmul64. Keys as for GMAC", side("decrypt", SIZES, "BearSSL aes_ct64 + ctmul64")),
         ("One edit, at the front of the file, and hashing the file again", edits(runs[0])),
         ("A join of parts, and hashing them again", joins(runs[0])),
+        ("A forecast of a journal, and its replay", forecasts(runs[0])),
         ("The file keeper's other calls", calls(runs[0])),
     ]
     return NOTE + "\n\n" + "\n".join(f"### {title}\n\n{text}\n" for title, text in parts)

@@ -14,7 +14,7 @@
 static uint8_t key[ARMFILE_BLOCK_BYTES], file[1024 * KIB], tag[ARMFILE_BLOCK_BYTES], slip[ARMFILE_SLIP_BYTES], verdict;
 static uint8_t journal[APPENDS * RECORD], sent[1024 * KIB], text[KIB];
 static uint8_t sums[PARTS * ARMFILE_BLOCK_BYTES]; /* made up: a join reads no part */
-static uint64_t lengths[PARTS], total, count, offset;
+static uint64_t lengths[PARTS], total, count, offset, bound, greatest;
 
 static uint64_t now(void)
 {
@@ -47,7 +47,7 @@ static int compare(const void *a, const void *b)
 			took[i] = now() - from;                                                \
 		}                                                                              \
 		qsort(took, (times), sizeof took[0], compare);                                 \
-		printf("%-34s %12llu ns\n", (name), (unsigned long long)took[(times) / 2]);    \
+		printf("%-35s %12llu ns\n", (name), (unsigned long long)took[(times) / 2]);    \
 	} while (0)
 
 int main(void)
@@ -67,6 +67,7 @@ int main(void)
 	COST("change of 16 bytes, first of 1 GiB", TIMES, KIB << 20, armfile_change(state, 0, file, 16, file, 16, &count));
 	COST("cut_tail of 16 bytes", TIMES, 16, armfile_cut_tail(state, file, 16, &count));
 	COST("replay of 100 appends of 16 bytes", TIMES, 0, armfile_replay(state, journal, sizeof journal, &count, &offset));
+	COST("forecast of 100 appends of 16 bytes", TIMES, 0, armfile_forecast(0, journal, sizeof journal, &bound, &greatest, &offset));
 	COST("seal", TIMES, 0, armfile_seal(state, slip, sizeof slip));
 	COST("check", TIMES, 0, armfile_check(state, slip, sizeof slip, &verdict));
 	COST("gmac of 1 KiB", TIMES, 0, armfile_gmac(key, sizeof key, key, 12, file, KIB, tag, sizeof tag));

@@ -1,5 +1,5 @@
-/* A file's life with the library: begun on a blank card, edited, sealed, put away, taken out again and checked, an old card too; and sent
- * unread. Then a cell's file, which is kept in parts. */
+/* A file's life with the library: begun on a blank card, edited, call by call and by a journal, sealed, put away, taken out again and checked, an
+ * old card too; and sent unread. Then a cell's file, which is kept in parts. */
 #include <stdio.h>
 #include <string.h>
 #include "armfile.h"
@@ -11,7 +11,10 @@
 static const uint8_t key[ARMFILE_BLOCK_BYTES] = { 1, 2, 3, 4, 5, 6, 7, 8, 9, 10, 11, 12, 13, 14, 15, 16 };
 static const uint8_t head[] = "; arm 7, cell 3\n", line[] = "G1 X10 Y20 Z30\n", line_2[] = "G1 X11 Y20 Z30\n";
 static const uint8_t carrying_key[ARMFILE_BLOCK_BYTES] = { 16, 15, 14, 13, 12, 11, 10, 9, 8, 7, 6, 5, 4, 3, 2, 1 }; /* it seals nothing */
-static const uint8_t old[] = "X10", new_[] = "X12", other[] = "X15", left[] = "G1 X12 Y20 Z30\n";
+static const uint8_t old[] = "X10", new_[] = "X12", other[] = "X15", left[] = "G1 X12 Y20 Z30\nG1 X14 Y20 Z30\n";
+
+/* A service laptop's journal: an append of a line of 15 bytes, and a change of 3 bytes at place 18. */
+static const uint8_t journal[] = "\x40\0\0\0\0\0\0\0\0\0\0\x0fG1 X11 Y20 Z30\n\x20\0\0\0\0\0\0\x12\0\0\0\x03X11X14";
 
 /* A cell's file and its parts, one a gripper: from each place to the next. All but the last part are of whole blocks. */
 #define PARTS 3
@@ -45,7 +48,7 @@ static void wipe(volatile uint8_t *bytes, size_t n)
 		*bytes++ = 0;
 }
 
-/* Whether a call was refused; if so, its number is told. Nothing has changed then, and the caller may go on. */
+/* Whether a call was refused; if so, its number is told. Nothing has changed then, a replay excepted, and the caller may go on. */
 static int refused(const char *what, uint64_t number)
 {
 	if (number != ARMFILE_OK)
@@ -53,7 +56,7 @@ static int refused(const char *what, uint64_t number)
 	return number != ARMFILE_OK;
 }
 
-/* From a blank card to `left`. What a change, a drop or a cut names does stand in the file at that place: blank bytes, at first. */
+/* From a blank card to the first line of `left`. What a change, a drop or a cut names does stand in the file at that place: blank bytes, at first. */
 static int edit(uint8_t *state)
 {
 	uint8_t blank[sizeof line - 1];
@@ -72,6 +75,17 @@ static int edit(uint8_t *state)
 	return refused("change", armfile_change(state, sizeof head - 1 + 3, TEXT(old), TEXT(new_), &count))
 	    || refused("drop_front", armfile_drop_front(state, TEXT(head), &count))
 	    || refused("cut_tail", armfile_cut_tail(state, TEXT(line_2), &count));
+}
+
+/* Runs the journal, to `left`, once it is forecast that no record is refused: how long to wait at most, in products, and how long the file gets. */
+static int run_journal(uint8_t *state)
+{
+	uint64_t bound, greatest, count, offset;
+
+	if (refused("forecast", armfile_forecast(armfile_length(state), TEXT(journal), &bound, &greatest, &offset)))
+		return 1;
+	printf("journal: at most %u products and %u bytes\n", (unsigned)bound, (unsigned)greatest);
+	return refused("replay", armfile_replay(state, TEXT(journal), &count, &offset)) || count > bound || armfile_length(state) > greatest;
 }
 
 /* Seals three times: `left`, with a slip for Tuesday's card, a change of it, and `left` again, since the change was undone. */
@@ -163,7 +177,7 @@ static int life(struct stored *kept, struct stored *back, uint8_t *reader)
 {
 	uint8_t tuesday[ARMFILE_SLIP_BYTES], verdict = ARMFILE_NOT_GENUINE, of_reader = ARMFILE_NOT_GENUINE;
 
-	if (edit(kept->state) || seal(kept, tuesday) || put_away(kept, back))
+	if (edit(kept->state) || run_journal(kept->state) || seal(kept, tuesday) || put_away(kept, back))
 		return 1;
 	printf("%u bytes, arm %u, seal %u\n", (unsigned)armfile_length(back->state), (unsigned)armfile_arm(back->state),
 		(unsigned)armfile_last(back->state));
