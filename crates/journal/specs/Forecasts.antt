@@ -82,9 +82,9 @@ pub record ForecastTheorem : Type 1 where
   -- an accepted edit of at least one byte adds q + 2b to it, and one of no bytes nothing
   pub charged : (n : ℕ) (e : Edit) → editRefusal n e ≡ 0 → length (given e) ≢ 0 → charge n (geometryAt n e) ≡ countLimit n (geometryAt n e)
   pub uncharged : (n : ℕ) (e : Edit) → editRefusal n e ≡ 0 → length (given e) ≡ 0 → charge n (geometryAt n e) ≡ 0
-  -- the greatest length is that of the state before and after the calls of the edits that replay makes (`ReplayTheorem.singly`)
+  -- the greatest length is the largest of the state's before and after each call of the edits that replay makes (`ReplayTheorem.singly`)
   pub greatest : (r : Run) (j : List ℕ) → Greatest r (made (r .state .n) j) (forecasted (r .state .n) j .greatest)
-  -- so replay leaves no longer file
+  -- so the file that replay leaves is no longer than that
   pub left : (st : State) (j : List ℕ) → replayed st j .state .n ≤ forecasted (st .n) j .greatest
   -- and all is told by the heads alone
   pub by-heads : (n : ℕ) (j j′ : List ℕ) → HeadsAgree j j′ → forecasted n j ≡ forecasted n j′
