@@ -3,7 +3,7 @@
 use mathlib.Core.Path.{_≡_, refl, sym, ap, ap₂, subst, _∙_}
 use mathlib.Core.Logic.{_⊎_, inl, inr}
 use mathlib.Core.List.{List, [], _∷_, _++_, map, flatten, append-assoc}
-use Prim.Native.Nat.{ℕ, zero, suc, _+_, _≤_}
+use Prim.Native.Nat.{ℕ, zero, suc, _+_, _^_, _≤_, _<_}
 use native.Mathlib.Nat.{le-refl}
 use native.Mathlib.Omega.{arith}
 use lib.ListN.{length, take, drop, replicate, length-append, length-replicate}
@@ -156,6 +156,15 @@ other-bytes n parts parts′ h same =
       heads = λ at b l. same-heads [] [] parts parts′ at refl same (begins-starts j (map append parts) at records b) l;
     })
 
+-- ---- any journal
+
+no-head : (n : ℕ) (j j′ : List ℕ) → length j ≡ length j′ → length j < headBytes → forecasted n j ≡ forecasted n j′
+no-head n j j′ size few = forecast-theorem .by-heads n j j′ (record { size = size; heads = λ at b l. absurd (omega arith) })
+
+every : (r : Run) (j : List ℕ) → (r .state .n ≤ forecasted (r .state .n) j .greatest) × (forecasted (r .state .n) j .bound < 2 ^ 64)
+unfolding run
+every r j = (forecast-theorem .greatest r j .none-longer 0, forecast-theorem .fits (r .state .n) j)
+
 pub forecast-met : ForecastMet
 forecast-met =
     record {
@@ -163,6 +172,8 @@ forecast-met =
       part-adds = λ n part l some. unfold given in forecast-theorem .charged n (append part) (append-refusal n part l) some;
       nothing-adds = λ n l. unfold given in forecast-theorem .uncharged n (append []) (append-refusal n [] (omega arith)) refl;
       other-bytes = other-bytes;
+      no-head = no-head;
+      every = every;
       too-long = λ n k l long. forecast-theorem .long-journal n (replicate k 0) l (rw (length-replicate {A = ℕ} k 0) long);
       file-too-long = λ n parts l. forecast-theorem .long-file n (appendJournal parts) l;
     }

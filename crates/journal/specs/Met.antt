@@ -16,7 +16,7 @@ use Rattle.file.specs.Calls.{seal}
 use Rattle.file.specs.Runs.{Run, run}
 use Rattle.file.specs.Demands.{AcceptedStart, AcceptedRead, SlipOf, upFrom}
 use Rattle.file.specs.Met.{appends, appendCounts, grown}
-use Rattle.journal.specs.Records.{packedRecord, HasRecord}
+use Rattle.journal.specs.Records.{headBytes, packedRecord, HasRecord}
 use Rattle.journal.specs.Journals.{maxJournal, ReplayAnswer, stoppedAt, replayed}
 use Rattle.journal.specs.Singly.{Opens, Task, call, replay, Editor, idle, workedAll}
 use Rattle.journal.specs.Forecasts.{charge, ForecastAnswer, forecastAt, forecasted}
@@ -101,6 +101,10 @@ pub record ForecastMet : Type 1 where
   pub other-bytes :
       (n : ℕ) (parts parts′ : List (List ℕ)) → HaveRecords (map append parts) → SameLengths parts parts′
       → forecasted n (appendJournal parts) ≡ forecasted n (appendJournal parts′)
+  -- so have any bytes that are too few for a head, which are refused where there are some
+  pub no-head : (n : ℕ) (j j′ : List ℕ) → length j ≡ length j′ → length j < headBytes → forecasted n j ≡ forecasted n j′
+  -- of every journal, refused or not, the greatest length is at least the first, and the bound has room in a word
+  pub every : (r : Run) (j : List ℕ) → (r .state .n ≤ forecasted (r .state .n) j .greatest) × (forecasted (r .state .n) j .bound < 2 ^ 64)
   -- a journal that is too long, and a file that is
   pub too-long : (n k : ℕ) → n ≤ maxBytes → maxJournal < k → forecasted n (replicate k 0) ≡ forecastAt 0 n 10 0
   pub file-too-long : (n : ℕ) (parts : List (List ℕ)) → maxBytes < n → forecasted n (appendJournal parts) ≡ forecastAt 0 n 2 0
