@@ -19,7 +19,6 @@
  *  - refusal: armfile_gcm_decrypt where the tag does not fit, which does all that an encryption does, but for the cipher's blocks of the text.
  *  - change 1, change 4096: armfile_change of that many bytes at place 0 of a file of n zero bytes. start (of n zero bytes too), read, seal,
  *    check: the calls.
- *  - asked 1: as change 1, but by armfile_ask_change and armfile_commit.
  *  - join: armfile_join of the parts of 1 MiB that n bytes have. Most of their sums are of chance, since no part is read.
  *  - forecast, replay: of a journal of appends of 4 KiB, n bytes in all, to a file of n zero bytes.
  *
@@ -84,7 +83,7 @@ enum { GHASH, GMAC, PRODUCT, BLOCK, COUNTER, ENCRYPT, DECRYPT, REFUSAL, OPS };
 
 /* ---- this library */
 
-static uint8_t state[ARMFILE_STATE_BYTES], sealed[ARMFILE_STATE_BYTES], slip[ARMFILE_SLIP_BYTES], verdict, pending[ARMFILE_PENDING_BYTES];
+static uint8_t state[ARMFILE_STATE_BYTES], sealed[ARMFILE_STATE_BYTES], slip[ARMFILE_SLIP_BYTES], verdict;
 static uint64_t refused, products; /* refused: whether any call was */
 static uint8_t part_h[16], sums[16 * PARTS];
 static uint64_t part_lengths[PARTS], total;
@@ -112,12 +111,6 @@ static void change(size_t bytes)
 }
 static void own_change_1(void) { change(1); }
 static void own_change_4096(void) { change(4096); }
-static void own_asked_1(void)
-{
-	memcpy(state, given->state, sizeof state);
-	refused |= armfile_ask_change(state, 0, zero, 1, text, 1, pending);
-	refused |= armfile_commit(state, pending, &products);
-}
 static void own_start(void) { refused |= armfile_start(key, 16, 7, 0, given->n, 0, state, &products); }
 static void own_read(void) { refused |= armfile_read(key, 16, 7, 0, text, given->n, state); }
 static void own_seal(void) { refused |= armfile_seal(sealed, slip, sizeof slip); }
@@ -482,12 +475,11 @@ static const struct { const char *name; const size_t *sizes; } ops[OPS] = {
 };
 
 static const size_t first_page[] = {1 << 10, 0}, files[] = {1 << 10, 1 << 20, 0}, joined[] = {PARTS * PART, 0}, journals[] = {RECORDS * RECORD, 0};
-static const size_t asked[] = {1 << 10, 1 << 30, 0};
 static const size_t lengths[] = {1 << 10, 1 << 15, 1 << 20, 1 << 25, 1 << 30, (size_t)1 << 35, (size_t)1 << 40, 0};
 static const struct { const char *name; call *run; const size_t *sizes; } own[] = {
-	{"change 1", own_change_1, lengths}, {"change 4096", own_change_4096, lengths + 1}, {"asked 1", own_asked_1, asked},
-	{"start", own_start, first_page}, {"read", own_read, files}, {"seal", own_seal, first_page}, {"check", own_check, first_page},
-	{"join", own_join, joined}, {"forecast", own_forecast, journals}, {"replay", own_replay, journals},
+	{"change 1", own_change_1, lengths}, {"change 4096", own_change_4096, lengths + 1}, {"start", own_start, first_page},
+	{"read", own_read, files}, {"seal", own_seal, first_page}, {"check", own_check, first_page}, {"join", own_join, joined},
+	{"forecast", own_forecast, journals}, {"replay", own_replay, journals},
 };
 #define OWN (sizeof own / sizeof own[0])
 
@@ -723,7 +715,6 @@ int main(int argc, char **argv)
 		check(*n);
 	for (const size_t *n = files; *n; n++) {
 		check_change(own_change_1, 1, *n);
-		check_change(own_asked_1, 1, *n);
 		if (*n >= 4096)
 			check_change(own_change_4096, 4096, *n);
 	}

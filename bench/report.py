@@ -13,7 +13,6 @@ from pathlib import Path
 OWN = "this library"
 SIZES = [16, 64, 1 << 10, 1 << 16, 1 << 24]
 FILES = [1 << 10, 1 << 20, 1 << 30, 1 << 40]
-ASKED = [1 << 10, 1 << 30]
 JOINED = 1000 << 20  # in parts of 1 MiB
 JOURNAL = 1000 << 12  # in records of 4 KiB
 HARDWARE = ["OpenSSL", "nettle", "libgcrypt", "mbedTLS"]  # peers that choose their path by themselves
@@ -161,16 +160,6 @@ def edits(run):
     return markdown(head, rows)
 
 
-def asks(run):
-    rows = []
-    for n in ASKED:
-        row = [length(n)]
-        for what in ["asked 1", "change 1"]:
-            row += [duration(run.best(what, n, OWN)), f"{100 * run.spread(what, n, OWN):.0f} %"]
-        rows.append(row + [f"{run.best('asked 1', n, OWN) / run.best('change 1', n, OWN):.2f}"])
-    return markdown(["file", "ask and commit", "spread", "change", "spread", "by the change's"], rows)
-
-
 def joins(run):
     best = run.best("join", JOINED, OWN)
     hashed, measured = again(run, JOINED)
@@ -210,7 +199,6 @@ def tables(runs, machine):
         ("GCM encryption; ratio to BearSSL aes_ct64 + ctmul64. Keys as for GMAC", side("encrypt", SIZES, "BearSSL aes_ct64 + ctmul64")),
         ("GCM decryption; ratio to BearSSL aes_ct64 + ctmul64. Keys as for GMAC", side("decrypt", SIZES, "BearSSL aes_ct64 + ctmul64")),
         ("One edit, at the front of the file, and hashing the file again", edits(runs[0])),
-        ("A change of 1 byte that is asked for and committed, and the same change at once", asks(runs[0])),
         ("A join of parts, and hashing them again", joins(runs[0])),
         ("A forecast of a journal, and its replay", forecasts(runs[0])),
         ("The file keeper's other calls", calls(runs[0])),

@@ -6,15 +6,13 @@
  * arm number, last used seal number. It begins with a file that is at hand, or
  * with a blank one, which is a fill byte and a length. Five edits move that
  * state without reading the file, one by one or as a journal of them; what a
- * journal will take can be forecast before it is run. Since a card write can
- * fail, an edit can be asked for first, which moves nothing, and committed once
- * the card is written. Of a file that is kept in parts, sum and length follow
- * from those of the parts. A seal writes a slip of 36 bytes whose tag is
- * AES-128 GMAC of the whole file; a check says whether a slip is genuine and,
- * if it is, whether it is current, stale or ahead: whether its seal number is
- * the state's last used one, a smaller or a larger. A file that is to travel
- * unread is encrypted by AES-128 GCM, which needs no state. FIPS 197 decides
- * for AES, NIST SP 800-38D for the field, GHASH, GMAC and GCM.
+ * journal will take can be forecast before it is run. Of a file that is kept in
+ * parts, sum and length follow from those of the parts. A seal writes a slip of
+ * 36 bytes whose tag is AES-128 GMAC of the whole file; a check says whether a
+ * slip is genuine and, if it is, whether it is current, stale or ahead: whether
+ * its seal number is the state's last used one, a smaller or a larger. A file
+ * that is to travel unread is encrypted by AES-128 GCM, which needs no state.
+ * FIPS 197 decides for AES, NIST SP 800-38D for the field, GHASH, GMAC and GCM.
  *
  * The library is for x86-64 and needs no other library.
  *
@@ -23,13 +21,13 @@
  * Every function but the five that read a state's fields (armfile_length,
  * armfile_arm, armfile_last, armfile_sum, armfile_hash_key) returns 0 when the
  * work was done, or the number of a refusal (below). A refused call leaves
- * every lent buffer, the state, the pending edit, the count, the verdict, and a
- * join's sum and n as they were, with two exceptions: armfile_replay always
- * writes state, count and offset, and what it did before the refused record
- * stays done; and armfile_forecast always writes bound, greatest and offset. No
- * input makes a call fail in any other way: there is no abort, no assertion and
- * no error state. This is proved, for all inputs, of the source; the compiler's
- * back end and linker are not covered.
+ * every lent buffer, the state, the count, the verdict, and a join's sum and n
+ * as they were, with two exceptions: armfile_replay always writes state, count
+ * and offset, and what it did before the refused record stays done; and
+ * armfile_forecast always writes bound, greatest and offset. No input makes a
+ * call fail in any other way: there is no abort, no assertion and no error
+ * state. This is proved, for all inputs, of the source; the compiler's back end
+ * and linker are not covered.
  *
  * Nothing is allocated, and no static data is written: calls on different
  * states may run in different threads. Calls on one state must not overlap in
@@ -50,38 +48,34 @@
  *    Of a forecast's journal only the heads of the records need be readable.
  *  - `lengths` points to an aligned array of lengths_len uint64_t, fewer than
  *    2^60.
- *  - `state` points to ARMFILE_STATE_BYTES bytes and `pending` to
- *    ARMFILE_PENDING_BYTES; `count`, `offset`, `bound`, `greatest` and the `n`
- *    of a join each to an aligned uint64_t; `verdict` to one byte; the `sum` of
- *    a join and the `out` of armfile_sum and of armfile_hash_key to 16 bytes.
- *    None of them needs a value before the call, but for a state that is read
- *    (that of an edit, an ask, a commit, a replay, a seal, a check or one of
- *    the five that read its fields) and for the pending edit of a commit.
- *  - What a call may write (a state that is not const, the pending edit of an
- *    ask, count, offset, bound, greatest, out, the tag of an encryption, the
- *    slip of a seal, verdict, the sum and the n of a join) overlaps nothing
- *    else that is passed to it: so no text is encrypted or decrypted in place.
- *    What is only read may overlap freely: old and new of a change may be the
- *    same bytes.
+ *  - `state` points to ARMFILE_STATE_BYTES bytes; `count`, `offset`, `bound`,
+ *    `greatest` and the `n` of a join each to an aligned uint64_t; `verdict` to
+ *    one byte; the `sum` of a join and the `out` of armfile_sum and of
+ *    armfile_hash_key to 16 bytes. None of them needs a value before the call,
+ *    but for a state that is read: that of an edit, a replay, a seal, a check
+ *    or one of the five that read its fields.
+ *  - What a call may write (a state that is not const, count, offset, bound,
+ *    greatest, out, the tag of an encryption, the slip of a seal, verdict, the
+ *    sum and the n of a join) overlaps nothing else that is passed to it: so no
+ *    text is encrypted or decrypted in place. What is only read may overlap
+ *    freely: old and new of a change may be the same bytes.
  *
  * TIME
  *
  * The code has no branch and no address that depends on a key, on a hash key,
- * on a running sum, that of a part or of a pending edit too, on a file's bytes
- * or on a text, but for three jumps: one in armfile_check and one in
- * armfile_gcm_decrypt, each on whether the tag fits, and one in armfile_commit,
- * on whether key and sum are both those that the pending edit started from.
- * This is public once the call has answered. Two tags are compared by one test
- * of all their bits, and so are key and sum of a commit together. The cipher
- * has no table: it computes its substitution by gates on bits. Time does depend
- * on lengths, those of a file's parts and of a pending edit too, on places (p,
- * n), on a blank file's fill byte, on the arm number, on seal numbers, the last
- * used one too, on a slip's bytes outside its tag and on the heads of a
- * journal's records; these are taken for public. A forecast reads nothing else.
- * Blocks are multiplied by multiplications of integers, which are taken to last
- * the same whatever they multiply, as they do on x86-64; nothing is divided.
- * This is observed of the compiled library (tests/ct), but for how long a
- * multiplication lasts, and is not part of what is proved.
+ * on a running sum, that of a part too, on a file's bytes or on a text, but for
+ * one jump in armfile_check and one in armfile_gcm_decrypt, each on whether the
+ * tag fits, which is public once the call has answered. Two tags are compared
+ * by one test of all their bits. The cipher has no table: it computes its
+ * substitution by gates on bits. Time does depend on lengths, those of a file's
+ * parts too, on places (p, n), on a blank file's fill byte, on the arm number,
+ * on seal numbers, the last used one too, on a slip's bytes outside its tag and
+ * on the heads of a journal's records; these are taken for public. A forecast
+ * reads nothing else. Blocks are multiplied by multiplications of integers,
+ * which are taken to last the same whatever they multiply, as they do on
+ * x86-64; nothing is divided. This is observed of the compiled library
+ * (tests/ct), but for how long a multiplication lasts, and is not part of what
+ * is proved.
  *
  * STACK
  *
@@ -90,25 +84,22 @@
  * shorter than 512 bytes; a longer one is hashed by a table of powers of H,
  * which stands on the stack. A figure is the same at every length above 0, a
  * join's at every number of parts, and at 0 no more; but calls with two take
- * less at some, and an edit, an ask and a join where they need no power of H. A
- * start's is the same with fill 0 as with another. This is measured
- * (tests/stack), and is not part of what is proved:
+ * less at some, and an edit and a join where they need no power of H. A start's
+ * is the same with fill 0 as with another. This is measured (tests/stack), and
+ * is not part of what is proved:
  *
- *      armfile_encrypt         1000            armfile_ask_append      1096
- *      armfile_multiply         184            armfile_ask_prepend     1096
- *      armfile_ghash          12712   648      armfile_ask_drop_front  1096
- *      armfile_join             584            armfile_ask_cut_tail    1096
- *      armfile_gmac           13384  1560      armfile_commit           520
- *      armfile_gcm_encrypt    13272  3368      armfile_replay          1416
- *      armfile_gcm_decrypt    13256  3352      armfile_forecast         208
- *      armfile_start           1368            armfile_seal            1496
- *      armfile_read           12872  1272      armfile_check           1432
- *      armfile_change          1080            armfile_length             8
- *      armfile_append          1080            armfile_arm                8
- *      armfile_prepend         1080            armfile_last               8
- *      armfile_drop_front      1080            armfile_sum               56
- *      armfile_cut_tail        1080            armfile_hash_key          56
- *      armfile_ask_change      1112
+ *      armfile_encrypt      1000            armfile_drop_front  1080
+ *      armfile_multiply      184            armfile_cut_tail    1080
+ *      armfile_ghash       12712   648      armfile_replay      1416
+ *      armfile_join          584            armfile_forecast     208
+ *      armfile_gmac        13384  1560      armfile_seal        1496
+ *      armfile_gcm_encrypt 13272  3368      armfile_check       1432
+ *      armfile_gcm_decrypt 13256  3352      armfile_length         8
+ *      armfile_start        1368            armfile_arm            8
+ *      armfile_read        12872  1272      armfile_last           8
+ *      armfile_change       1080            armfile_sum           56
+ *      armfile_append       1080            armfile_hash_key      56
+ *      armfile_prepend      1080
  *
  * WHAT TO WIPE
  *
@@ -125,8 +116,6 @@
  *    largest figure above (examples/c/seal.c overwrites 16384; nothing was
  *    found after it);
  *  - every state that is no longer used, copies too: it holds the key;
- *  - every pending edit, as soon as it is committed or dropped, copies and what
- *    was stored of it too: it holds the key as well, and two sums;
  *  - H and the sums that it took out of states or had from a join: whoever has
  *    H can forge tags, and to whoever knows a file its sum leaves few hash keys
  *    that fit;
@@ -140,16 +129,15 @@
  * Nanoseconds a call takes, the median of many, on one core of an Intel Xeon
  * server (no instruction for AES or for products of polynomials is used), all of
  * one run; other runs there took from nine tenths to nearly twice as long.
- * Those of an ask, a commit, a join and a forecast are of an AMD EPYC server,
- * where the others took from three quarters to eleven tenths as long. Take them
- * as orders of magnitude, and `make cost` for your own machine:
+ * Those of a join and of a forecast are of an AMD EPYC server, where the others
+ * took from three quarters to eleven tenths as long. Take them as orders of
+ * magnitude, and `make cost` for your own machine:
  *
  *      armfile_start of 0 bytes, of 1 GiB of FF  9 000, 14 000
  *      armfile_read of 1 KiB, of 1 MiB        11 000, 1 400 000
  *      armfile_append of 16 bytes, of 4 KiB         260, 15 000
  *      armfile_change of 16 bytes, first of 1 GiB        2 900
  *      armfile_cut_tail of 16 bytes                        260
- *      armfile_ask_append of 16 bytes, armfile_commit  260, 50
  *      armfile_seal, armfile_check                1 200, 1 200
  *      armfile_gmac of 1 KiB                             4 500
  *      armfile_gcm_encrypt of 1 KiB, of 1 MiB  9 800, 7 100 000
@@ -160,16 +148,15 @@
  *
  * Most of what an edit takes is its products of blocks, some 57 each; it
  * returns how many it took. armfile_start returns how many a blank file took,
- * some 52 each. An ask takes what its edit does; a commit multiplies nothing. A
- * join takes, for each part, one for each binary digit of its number of blocks
- * and one more for each one among those: 18 for 1 MiB. A block of an input of
- * 512 bytes or more takes some 21. What armfile_start and armfile_read take
- * besides the file is H's companion I, 127 squares and 127 products. A replay
- * takes a little less than its edits when they are made singly, and a forecast,
- * which multiplies nothing, some 7 a record. Of GCM the cipher takes four
- * fifths, some 86 a block (what an encryption of 1 MiB takes more than a read
- * of it), and of up to two blocks behind the last sixteen some 600 each.
- * docs/BENCHMARKS.md has more, beside other libraries.
+ * some 52 each. A join takes, for each part, one for each binary digit of its
+ * number of blocks and one more for each one among those: 18 for 1 MiB. A block
+ * of an input of 512 bytes or more takes some 21. What armfile_start and
+ * armfile_read take besides the file is H's companion I, 127 squares and 127
+ * products. A replay takes a little less than its edits when they are made
+ * singly, and a forecast, which multiplies nothing, some 7 a record. Of GCM the
+ * cipher takes four fifths, some 86 a block (what an encryption of 1 MiB takes
+ * more than a read of it), and of up to two blocks behind the last sixteen some
+ * 600 each. docs/BENCHMARKS.md has more, beside other libraries.
  *
  * THE STATE
  *
@@ -197,11 +184,10 @@
  * no caller needs this layout.
  *
  * Any ARMFILE_STATE_BYTES bytes are taken as a state; no call trusts what it
- * finds there. Where n passes 2^61 - 1, every edit, ask, commit, replay, seal
- * and check refuses the state with 2 before all else, and a forecast such an n;
- * otherwise the call does its work on the fields as they are. Only states that
- * come from armfile_start or armfile_read and the calls after it stand for a
- * file.
+ * finds there. Where n passes 2^61 - 1, every edit, replay, seal and check
+ * refuses the state with 2 before all else, and a forecast such an n; otherwise
+ * the call does its work on the fields as they are. Only states that come from
+ * armfile_start or armfile_read and the calls after it stand for a file.
  *
  * A FILE IN PIECES
  *
@@ -237,87 +223,16 @@
  * the nonce, it is the tag of a slip of the whole. One nonce must never serve
  * two files under one key, here as in a seal.
  *
- * A CARD WRITE THAT CAN FAIL
- *
- * An edit moves the state at once. Where the card is written only then, and the
- * write fails, the state stands for a file that no card holds. So an edit can
- * be asked for first. An ask (armfile_ask_change() and four more) takes what
- * the edit takes and is refused as the edit is, but leaves the state as it is,
- * and writes a PENDING EDIT: the sum, the length and the count that the edit
- * would give, and the key, the sum and the length that it started from.
- * armfile_commit() puts that sum and length into the state. Ask and commit
- * together do what the edit does, with the same state, count and refusal. The
- * order of things:
- *
- *  1. Ask.
- *  2. Store the pending edit.
- *  3. Write the card.
- *  4. Commit.
- *  5. Store the state.
- *  6. Wipe the pending edit, and what was stored of it.
- *
- * After a crash, what is found tells where it came, and what to do:
- *
- *  - No pending edit is stored. It came before 2 was done: nothing has
- *    happened, so ask again. Or it came after 6, and all is done. The stored
- *    state stands for the file on the card either way.
- *  - A pending edit is stored, and the card does not have the whole edit. It
- *    came before 3 was done, and the stored state is still that of before the
- *    edit. Write the card again and go on with 4; or put the old bytes back and
- *    go on with 6, and the edit was never made. A card write that fails without
- *    a crash leaves the same two ways.
- *  - A pending edit is stored, and the card has the whole edit. It came after
- *    3. Go on with 4, on the stored state. Where the commit is accepted, 5 was
- *    not done: store the state. Where it is refused with 16, 5 was done: go on
- *    with 6. So a commit can be repeated. (An edit that moved neither sum nor
- *    length is accepted again, and moves nothing.)
- *
- * This takes some care:
- *
- *  - Store a state or a pending edit, and wipe a stored one, in such a way that
- *    a crash leaves it whole: as it was before, or as it is to be. No call can
- *    see that one is not whole.
- *  - Wipe a pending edit before the next edit of the file. One that is kept is
- *    accepted again whenever later edits have brought back the sum and the
- *    length that it started from, though the card no longer has its bytes.
- *  - Of several edits that were asked for of one state only one can be
- *    committed; the others are then refused with 16, unless that one moved
- *    neither sum nor length.
- *  - A seal between ask and commit is no hindrance. It is of the file before
- *    the edit, its number stays used, and the state is stored for it as ever
- *    (armfile_seal()). Commit to that state, not to one of before the seal.
- *
- * A pending edit is ARMFILE_PENDING_BYTES bytes, big-endian, in this order:
- *
- *      at   bytes  what
- *       0     16   the new sum
- *      16      8   the new length in bytes
- *      24      8   the count of products
- *      32     16   the key of the state that it started from
- *      48     16   the first sum: that state's
- *      64      8   the first length: that state's
- *
- * A PENDING EDIT IS SECRET: IT HOLDS THE KEY. Store it as you store the state,
- * where nobody else reads or writes, and wipe it (WHAT TO WIPE). Its layout and
- * size are as provisional as the state's: write ARMFILE_PENDING_BYTES, never
- * 72.
- *
- * Any ARMFILE_PENDING_BYTES bytes are taken as a pending edit. Where its key
- * and its first sum and length are the state's, and its new length is at most
- * 2^61 - 1, a commit puts the new sum and length as they are. Only what comes
- * from an ask stands for an edit.
- *
  * TRUE BYTES
  *
  * The library cannot see the file. Where armfile_start is told of fill bytes,
  * armfile_change of old bytes, or armfile_drop_front or armfile_cut_tail of
  * removed bytes, that the file does not have at that place, the call is
  * accepted and the state stands for no file from then on: seals of it are not
- * GMAC of the file. The same goes for an edit that was asked for, whose old or
- * removed bytes must be true when it is committed, and for the records of a
- * journal, each of which meets the file that those before it left; a forecast
- * is the same whether or not they are true. The first change of blank bytes has
- * fill bytes for its old ones.
+ * GMAC of the file. The same goes for the records of a journal, each of which
+ * meets the file that those before it left; a forecast is the same whether or
+ * not they are true. The first change of blank bytes has fill bytes for its old
+ * ones.
  */
 #ifndef ARMFILE_H
 #define ARMFILE_H
@@ -331,9 +246,6 @@ extern "C" {
 
 /** \brief Size of a state in bytes; provisional (see above). */
 #define ARMFILE_STATE_BYTES 84
-
-/** \brief Size of a pending edit in bytes; provisional (see above). */
-#define ARMFILE_PENDING_BYTES 72
 
 /** \brief Size of a slip in bytes. */
 #define ARMFILE_SLIP_BYTES 36
@@ -415,11 +327,6 @@ extern "C" {
 #define ARMFILE_WRONG_TAG 14
 /** \brief The sums of a join are not 16 bytes for each length. */
 #define ARMFILE_SUMS_LENGTH 15
-/**
- * \brief The state's key, sum or length is not the one that the pending edit
- * started from.
- */
-#define ARMFILE_OTHER_ORIGIN 16
 
 /* ==================================================================== */
 /* Cipher, field, GHASH, join, GMAC and GCM: no state.                  */
@@ -860,138 +767,6 @@ uint64_t armfile_drop_front(uint8_t state[ARMFILE_STATE_BYTES],
  */
 uint64_t armfile_cut_tail(uint8_t state[ARMFILE_STATE_BYTES],
 	const uint8_t *bytes, size_t bytes_len, uint64_t *count);
-
-/* ==================================================================== */
-/* Ask first, commit after the card is written.                         */
-/*                                                                      */
-/* The five asks take what the five edits take, and are refused as they */
-/* are: with 2, before all else, where the state's length passes        */
-/* 2^61 - 1, and then for the edit's own causes in their order. The     */
-/* state is only read. On a refusal the pending edit stays as it was;   */
-/* otherwise all of it is written. An edit of no bytes that passes its  */
-/* checks can be asked for and committed too: it moves nothing and      */
-/* counts 0. The products are taken by the ask; the commit takes none,  */
-/* and gives their count. A CARD WRITE THAT CAN FAIL, above, has the    */
-/* order in which to ask, to store, to write and to commit.             */
-
-/**
- * \brief Asks for a change: bytes p to p + new_len - 1 are to become new.
- *
- * Refused as armfile_change() is: with 4 where `old_len` and `new_len` differ,
- * then with 3 where p + old_len passes the file's length (as whole numbers:
- * nothing wraps).
- *
- * \param state    the state, ARMFILE_STATE_BYTES bytes; it is only read.
- * \param p        the first byte's place, counted from 0.
- * \param old      the bytes that stand there now; see TRUE BYTES.
- * \param old_len  their number.
- * \param new_     the bytes to stand there.
- * \param new_len  their number; it must be old_len.
- * \param pending  receives the pending edit, ARMFILE_PENDING_BYTES bytes; a
- *                 secret. It must not overlap state, old or new_.
- * \return 0, 2, 4 or 3.
- */
-uint64_t armfile_ask_change(const uint8_t state[ARMFILE_STATE_BYTES],
-	uint64_t p, const uint8_t *old, size_t old_len,
-	const uint8_t *new_, size_t new_len,
-	uint8_t pending[ARMFILE_PENDING_BYTES]);
-
-/**
- * \brief Asks for an append: bytes are to go after the last.
- *
- * Any length. Refused as armfile_append() is: with 2 where the new length would
- * pass 2^61 - 1.
- *
- * \param state      the state, ARMFILE_STATE_BYTES bytes; it is only read.
- * \param bytes      the bytes.
- * \param bytes_len  their number.
- * \param pending    receives the pending edit, ARMFILE_PENDING_BYTES bytes; a
- *                   secret. It must not overlap state or bytes.
- * \return 0 or 2.
- */
-uint64_t armfile_ask_append(const uint8_t state[ARMFILE_STATE_BYTES],
-	const uint8_t *bytes, size_t bytes_len,
-	uint8_t pending[ARMFILE_PENDING_BYTES]);
-
-/**
- * \brief Asks for a prepend: bytes are to go before the first.
- *
- * Refused as armfile_prepend() is: with 5 where `bytes_len` is no multiple of
- * 16, then with 2 where the new length would pass 2^61 - 1.
- *
- * \param state      the state, ARMFILE_STATE_BYTES bytes; it is only read.
- * \param bytes      the bytes.
- * \param bytes_len  their number, a multiple of 16.
- * \param pending    receives the pending edit, ARMFILE_PENDING_BYTES bytes; a
- *                   secret. It must not overlap state or bytes.
- * \return 0, 2 or 5.
- */
-uint64_t armfile_ask_prepend(const uint8_t state[ARMFILE_STATE_BYTES],
-	const uint8_t *bytes, size_t bytes_len,
-	uint8_t pending[ARMFILE_PENDING_BYTES]);
-
-/**
- * \brief Asks for a drop-front: bytes are to leave the front.
- *
- * Refused as armfile_drop_front() is: with 5 where `bytes_len` is no multiple
- * of 16, then with 3 where it passes the file's length.
- *
- * \param state      the state, ARMFILE_STATE_BYTES bytes; it is only read.
- * \param bytes      the file's first bytes_len bytes; see TRUE BYTES.
- * \param bytes_len  how many are to leave, a multiple of 16.
- * \param pending    receives the pending edit, ARMFILE_PENDING_BYTES bytes; a
- *                   secret. It must not overlap state or bytes.
- * \return 0, 2, 5 or 3.
- */
-uint64_t armfile_ask_drop_front(const uint8_t state[ARMFILE_STATE_BYTES],
-	const uint8_t *bytes, size_t bytes_len,
-	uint8_t pending[ARMFILE_PENDING_BYTES]);
-
-/**
- * \brief Asks for a cut-tail: bytes are to leave the end.
- *
- * Any length up to the file's. Refused as armfile_cut_tail() is: with 3 where
- * `bytes_len` passes the file's length.
- *
- * \param state      the state, ARMFILE_STATE_BYTES bytes; it is only read.
- * \param bytes      the file's last bytes_len bytes; see TRUE BYTES.
- * \param bytes_len  how many are to leave.
- * \param pending    receives the pending edit, ARMFILE_PENDING_BYTES bytes; a
- *                   secret. It must not overlap state or bytes.
- * \return 0, 2 or 3.
- */
-uint64_t armfile_ask_cut_tail(const uint8_t state[ARMFILE_STATE_BYTES],
-	const uint8_t *bytes, size_t bytes_len,
-	uint8_t pending[ARMFILE_PENDING_BYTES]);
-
-/**
- * \brief Commits a pending edit: puts its sum and its length into the state.
- *
- * Nothing else of the state moves. Sum, length and count are those that the
- * edit would have given where it was asked for.
- *
- * Refused with 2 where the state's length passes 2^61 - 1, then with 16 where
- * the state's key, sum or length is not the one that the pending edit started
- * from, then with 2 where the pending edit's own length passes 2^61 - 1, which
- * that of an ask never does; state and count then stay as they were. H, I, arm
- * and last used seal number are not compared.
- *
- * 16 means, of a pending edit that an ask of this state gave, that it was
- * committed already, or that another edit has moved the state since. So a
- * commit can be repeated: the second is refused with 16, unless the edit moved
- * neither sum nor length; it is then accepted again, moves nothing and gives
- * its count again.
- *
- * \param state    the state, ARMFILE_STATE_BYTES bytes; its sum and length are
- *                 replaced.
- * \param pending  the pending edit, ARMFILE_PENDING_BYTES bytes; it is only
- *                 read, and stays the caller's to wipe.
- * \param count    receives the pending edit's count, the number of products
- *                 that its ask took; its value may be ignored.
- * \return 0, 2 or 16.
- */
-uint64_t armfile_commit(uint8_t state[ARMFILE_STATE_BYTES],
-	const uint8_t pending[ARMFILE_PENDING_BYTES], uint64_t *count);
 
 /* ==================================================================== */
 /* A journal of edits.                                                  */

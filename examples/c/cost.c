@@ -12,7 +12,7 @@
 #define PARTS 1000
 
 static uint8_t key[ARMFILE_BLOCK_BYTES], file[1024 * KIB], tag[ARMFILE_BLOCK_BYTES], slip[ARMFILE_SLIP_BYTES], verdict;
-static uint8_t journal[APPENDS * RECORD], sent[1024 * KIB], text[KIB], pending[ARMFILE_PENDING_BYTES];
+static uint8_t journal[APPENDS * RECORD], sent[1024 * KIB], text[KIB];
 static uint8_t sums[PARTS * ARMFILE_BLOCK_BYTES]; /* made up: a join reads no part */
 static uint64_t lengths[PARTS], total, count, offset, bound, greatest;
 
@@ -66,9 +66,6 @@ int main(void)
 	COST("append of 4 KiB", TIMES, 0, armfile_append(state, file, 4 * KIB, &count));
 	COST("change of 16 bytes, first of 1 GiB", TIMES, KIB << 20, armfile_change(state, 0, file, 16, file, 16, &count));
 	COST("cut_tail of 16 bytes", TIMES, 16, armfile_cut_tail(state, file, 16, &count));
-	COST("ask_append of 16 bytes", TIMES, 0, armfile_ask_append(state, file, 16, pending));
-	/* Of what was asked for just above: all states there have one key, sum and length. */
-	COST("commit", TIMES, 0, armfile_commit(state, pending, &count));
 	COST("replay of 100 appends of 16 bytes", TIMES, 0, armfile_replay(state, journal, sizeof journal, &count, &offset));
 	COST("forecast of 100 appends of 16 bytes", TIMES, 0, armfile_forecast(0, journal, sizeof journal, &bound, &greatest, &offset));
 	COST("seal", TIMES, 0, armfile_seal(state, slip, sizeof slip));

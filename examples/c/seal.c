@@ -1,5 +1,5 @@
-/* A file's life with the library: begun on a blank card, edited, call by call, by a journal and with a card write that fails, sealed, put away, taken
- * out again and checked, an old card too; and sent unread. Then a cell's file, which is kept in parts. */
+/* A file's life with the library: begun on a blank card, edited, call by call and by a journal, sealed, put away, taken out again and checked, an
+ * old card too; and sent unread. Then a cell's file, which is kept in parts. */
 #include <stdio.h>
 #include <string.h>
 #include "armfile.h"
@@ -88,44 +88,13 @@ static int run_journal(uint8_t *state)
 	return refused("replay", armfile_replay(state, TEXT(journal), &count, &offset)) || count > bound || armfile_length(state) > greatest;
 }
 
-/* Writes bytes on a card; where the card fails, only the first of them gets there. Says whether it failed. */
-static int write_card(uint8_t *place, const uint8_t *bytes, size_t n, int fails)
-{
-	memcpy(place, bytes, fails ? 1 : n);
-	return fails;
-}
-
-/* Changes the card first and then the state (armfile.h, A CARD WRITE THAT CAN FAIL). Where the write fails, the old bytes are put back, and the state,
- * which has not moved, still stands for what the card holds. A controller stores the pending edit before it writes the card, and the state after the
- * commit. */
-static int change_card(uint8_t *state, uint8_t *card, int fails)
-{
-	uint8_t pending[ARMFILE_PENDING_BYTES];
-	uint64_t count;
-	int failed = refused("ask_change", armfile_ask_change(state, 3, TEXT(new_), TEXT(other), pending));
-
-	if (!failed && write_card(card + 3, TEXT(other), fails)) {
-		printf("card: not written\n");
-		failed = write_card(card + 3, TEXT(new_), 0);
-	} else if (!failed) {
-		failed = refused("commit", armfile_commit(state, pending, &count))
-		    || armfile_commit(state, pending, &count) != ARMFILE_OTHER_ORIGIN; /* a second commit does no harm */
-	}
-	wipe(pending, sizeof pending); /* it holds the key */
-	return failed;
-}
-
-/* Seals three times: `left`, with a slip for Tuesday's card, a change of it, which the card takes only when it is written again, and `left` again,
- * since the change was undone. */
+/* Seals three times: `left`, with a slip for Tuesday's card, a change of it, and `left` again, since the change was undone. */
 static int seal(struct stored *kept, uint8_t *tuesday)
 {
-	uint8_t card[sizeof left];
 	uint64_t count;
 
-	memcpy(card, left, sizeof card);
 	return refused("seal", armfile_seal(kept->state, tuesday, ARMFILE_SLIP_BYTES))
-	    || change_card(kept->state, card, 1) || memcmp(card, left, sizeof card)
-	    || change_card(kept->state, card, 0) || !memcmp(card, left, sizeof card)
+	    || refused("change", armfile_change(kept->state, 3, TEXT(new_), TEXT(other), &count))
 	    || refused("seal", armfile_seal(kept->state, kept->slip, sizeof kept->slip))
 	    || refused("change", armfile_change(kept->state, 3, TEXT(other), TEXT(new_), &count))
 	    || refused("seal", armfile_seal(kept->state, kept->slip, sizeof kept->slip));

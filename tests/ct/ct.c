@@ -5,11 +5,11 @@
  * it chose is followed on as undefined. How long an instruction takes is not seen here: integer multiplications, by which
  * blocks are multiplied, are taken to last the same whatever they multiply.
  *
- * Secret: keys, H, I, S, of parts too, a pending edit's key and sums, blocks, the bytes of files, in a journal too, and GCM's texts, associated
- * data and ciphertexts. Public: lengths, of parts and in pending edits too, places, a blank file's fill byte, arm and seal numbers, nonces, slips, the
- * heads of a journal's records, whose kind, p and l decide what is done, and every answer, count, offset, forecast and verdict. Answers, counts,
- * offsets, forecasts and the length of joined parts must come out defined by themselves, but for the answers of a decryption and of a commit. A tag is
- * published by the call that makes it, and is declared public after that call, not before.
+ * Secret: keys, H, I, S, of parts too, blocks, the bytes of files, in a journal too, and GCM's texts, associated data and ciphertexts. Public:
+ * lengths, of parts too, places, a blank file's fill byte, arm and seal numbers, nonces, slips, the heads of a journal's records, whose kind, p
+ * and l decide what is done, and every answer, count, offset, forecast and verdict. Answers, counts, offsets, forecasts and the length of joined
+ * parts must come out defined by themselves, but for a decryption's answer. A tag is published by the call that makes it, and is declared public
+ * after that call, not before.
  *
  * A forecast reads no byte between the heads, and none behind the head of a refused record. So it is also made where memcheck takes these bytes to be
  * no memory at all, and reports every read of one.
@@ -18,33 +18,37 @@
  * each check that comes to compare tags makes at most one report, the jump, and its verdict then comes out defined, since by that jump and the
  * two public numbers, the slip's and the last used one, it is settled; or it makes no report, and its verdict comes out undefined. A jump on a
  * part of the tags would need a second one, or leave the verdict undefined. A decryption's answer, which says whether the tag fits, is held to
- * the same; what it then writes, or leaves, shows which way it went. So is a commit's, which says whether key and sum are both those that the pending
- * edit started from (pendings.c).
+ * the same; what it then writes, or leaves, shows which way it went.
  *
  * Each call is made on plain data too, and must give the same bytes.
  *
- * ct field    multiply, GHASH, join, a state's fields, the five edits, the five asks, replay and forecast, which use no cipher
+ * ct field    multiply, GHASH, join, a state's fields, the five edits, replay and forecast, which use no cipher
  * ct cipher   encrypt, GMAC, GCM encryption, start, read and seal
  * ct check    check
  * ct decrypt  GCM decryption
- * ct commit   commit
  * ct branch, ct index, ct barred    deliberate faults, which must be reported
  * ct move     a conditional move, which is no fault
  */
-#include "ct.h"
+#include "armfile.h"
 #include <stdio.h>
 #include <stdlib.h>
 #include <string.h>
 #include <valgrind/memcheck.h>
 
+#define STATE ARMFILE_STATE_BYTES
+#define SECRET_STATE 64 /* key, H, I and S; n, arm and last used number follow */
 #define SLIP ARMFILE_SLIP_BYTES
 #define SLIP_HEAD 20 /* version, length, arm and number; the tag follows */
 #define UNJUDGED 0xee /* what stands where a verdict goes: no verdict, and what a refused check leaves */
+/* The longest input: one of each that is hashed or encrypted. It has more than 256 blocks and than sixteen batches of sixteen blocks. */
+#define LONG 5000
+#define LONG_WHOLE (LONG / 16 * 16) /* whole blocks, where an edit takes only these */
 #define HEAD 12 /* a record's: kind, p and l */
 #define RECORDS 6
 #define PARTS 1000 /* the most that are joined */
 
-const size_t lengths[LENGTHS] = {0, 1, 15, 16, 17, 32, 33, 64, 100};
+static const size_t lengths[] = {0, 1, 15, 16, 17, 32, 33, 64, 100};
+#define LENGTHS (sizeof lengths / sizeof lengths[0])
 /* What is no edit is hashed block by block below 512 bytes, and from there on by batches of 256, with what is left block by block. */
 static const size_t wholes[] = {0, 1, 15, 16, 17, 32, 33, 64, 100, 255, 256, 257, 511, 512, 513, 527, 528, 767, 768, 1000};
 #define WHOLES (sizeof wholes / sizeof wholes[0])
@@ -54,21 +58,22 @@ static const size_t nonces[] = {1, 12, 16, 17, 511, 512, 513, 527, 528, 767, 768
 static const size_t texts[] = {0, 1, 16, 17, 32, 33, 48, 240, 255, 256, 257, 288, 289, 300, 511, 512, 513, 527, 528, 560, 767, 768, 1000};
 #define TEXTS (sizeof texts / sizeof texts[0])
 
-unsigned calls, comparisons, jumps;
+static unsigned calls, comparisons, jumps;
 
-void fail(const char *what) {
+static void fail(const char *what) {
     fprintf(stderr, "ct: %s, in call %u\n", what, calls);
     exit(1);
 }
 
-void hide(void *bytes, size_t n) { (void)VALGRIND_MAKE_MEM_UNDEFINED(bytes, n); }
+static void hide(void *bytes, size_t n) { (void)VALGRIND_MAKE_MEM_UNDEFINED(bytes, n); }
 
-void reveal(void *bytes, size_t n) { (void)VALGRIND_MAKE_MEM_DEFINED(bytes, n); }
+static void reveal(void *bytes, size_t n) { (void)VALGRIND_MAKE_MEM_DEFINED(bytes, n); }
 
 /* From here on the bytes are no memory: every read of one is reported, until they are revealed. */
 static void bar(void *bytes, size_t n) { (void)VALGRIND_MAKE_MEM_NOACCESS(bytes, n); }
 
-int all_bits(const void *bytes, size_t n, unsigned char which) {
+/* Whether every bit of the bytes is defined (which 0) or undefined (which 0xff). */
+static int all_bits(const void *bytes, size_t n, unsigned char which) {
     unsigned char bits[LONG];
     if (n > sizeof bits || VALGRIND_GET_VBITS(bytes, bits, n) != 1)
         fail("memcheck does not say which bits are defined");
@@ -78,22 +83,24 @@ int all_bits(const void *bytes, size_t n, unsigned char which) {
     return 1;
 }
 
-void must_be_public(const void *bytes, size_t n, const char *what) {
+static void must_be_public(const void *bytes, size_t n, const char *what) {
     if (!all_bits(bytes, n, 0))
         fail(what);
 }
 
-void must_be_secret(const void *bytes, size_t n, const char *what) {
+/* The secrets did reach the output: memcheck followed them all the way. */
+static void must_be_secret(const void *bytes, size_t n, const char *what) {
     if (!all_bits(bytes, n, 0xff))
         fail(what);
 }
 
-void must_be_same(const void *a, const void *b, size_t n, const char *what) {
+static void must_be_same(const void *a, const void *b, size_t n, const char *what) {
     if (memcmp(a, b, n) != 0)
         fail(what);
 }
 
-void answered(uint64_t answer, uint64_t expected) {
+/* An answer: defined, and the one expected. */
+static void answered(uint64_t answer, uint64_t expected) {
     calls++;
     must_be_public(&answer, sizeof answer, "an answer depends on a secret");
     if (answer != expected)
@@ -103,7 +110,7 @@ void answered(uint64_t answer, uint64_t expected) {
 /* Repeatable bytes, splitmix64. */
 static uint64_t seed = 5;
 
-void fill(uint8_t *bytes, size_t n) {
+static void fill(uint8_t *bytes, size_t n) {
     for (size_t i = 0; i < n; i++) {
         uint64_t z = seed += UINT64_C(0x9e3779b97f4a7c15);
         z = (z ^ (z >> 30)) * UINT64_C(0xbf58476d1ce4e5b9);
@@ -112,12 +119,13 @@ void fill(uint8_t *bytes, size_t n) {
     }
 }
 
-void big_endian(uint8_t *bytes, uint64_t number, size_t width) {
+static void big_endian(uint8_t *bytes, uint64_t number, size_t width) {
     for (size_t i = 0; i < width; i++)
         bytes[i] = (uint8_t)(number >> (8 * (width - 1 - i)));
 }
 
-void any_state(uint8_t *state, uint64_t n) {
+/* A state of any key, H, I and S, for a file of n bytes. */
+static void any_state(uint8_t *state, uint64_t n) {
     fill(state, SECRET_STATE);
     big_endian(state + 64, n, 8);
     big_endian(state + 72, 7, 4);
@@ -545,11 +553,13 @@ static void on_seal(void) {
     }
 }
 
-void compared(unsigned reports, int defined) {
+/* A call that compares tags may jump on the outcome, and on nothing less: one report, and what it tells is then defined; or none, and it is
+ * not. */
+static void compared(unsigned reports, int defined) {
     if (reports > 1)
-        fail("a call that compares secrets has more reports than its one jump on the outcome");
+        fail("a call that compares tags has more reports than its one jump on the outcome");
     if (defined != (reports == 1))
-        fail("the outcome of a comparison of secrets is not settled by one jump");
+        fail("the outcome of a comparison of tags is not settled by one jump");
     comparisons++;
     jumps += reports;
 }
@@ -697,7 +707,6 @@ int main(int argc, char **argv) {
         on_join();
         on_fields();
         on_edits();
-        on_asks();
         on_replay();
     } else if (strcmp(part, "cipher") == 0) {
         on_blocks(armfile_encrypt);
@@ -710,8 +719,6 @@ int main(int argc, char **argv) {
         on_check();
     } else if (strcmp(part, "decrypt") == 0) {
         on_gcm_decrypt();
-    } else if (strcmp(part, "commit") == 0) {
-        on_commit();
     } else if (strcmp(part, "branch") == 0) {
         fault(BRANCH);
     } else if (strcmp(part, "index") == 0) {
@@ -721,7 +728,7 @@ int main(int argc, char **argv) {
     } else if (strcmp(part, "move") == 0) {
         move();
     } else {
-        fail("ct field, cipher, check, decrypt, commit, branch, index, barred or move");
+        fail("ct field, cipher, check, decrypt, branch, index, barred or move");
     }
     printf("ct %s: %u calls\n", part, calls);
     return 0;

@@ -5,8 +5,8 @@
  * caller's own. Only bytes that are written count; what the lowest frame reserves at its end and never writes does not.
  *
  * It is an error where a call is refused, where it does not take the same at every length above 0, and where it takes more at length 0. A join's
- * length is its number of parts, that of a replay or a forecast the length of each edit, and that of a commit the length of the append that was asked
- * for. Edits, asks and a join may take less where they need no power of H. Calls that hash a whole input may take another figure below 512 bytes than from there on, where they go by batches, and another where nothing
+ * length is its number of parts, and that of a replay or a forecast the length of each edit. Edits and a join may take less where they need no power
+ * of H. Calls that hash a whole input may take another figure below 512 bytes than from there on, where they go by batches, and another where nothing
  * is left behind the batches; and GCM by the way in which it makes the last bytes of a text. The largest is told, and where a call takes less at
  * every length below 512, behind it the largest of those. */
 #define _XOPEN_SOURCE 700
@@ -36,7 +36,6 @@
 static volatile uint8_t *stack;
 static uintptr_t caller;
 static uint8_t key[16], state[ARMFILE_STATE_BYTES], slip[ARMFILE_SLIP_BYTES], file[MOST + 16], out[16], verdict;
-static uint8_t asked[ARMFILE_PENDING_BYTES], pending[ARMFILE_PENDING_BYTES];
 static uint8_t text[MOST], sent[MOST], tag[16];
 static uint8_t sums[16 * MOST];
 static uint64_t parts[MOST], total;
@@ -76,12 +75,6 @@ CALL(append, armfile_append(state, file, n, &count))
 CALL(prepend, armfile_prepend(state, file, WHOLE(n), &count))
 CALL(drop_front, armfile_drop_front(state, file, WHOLE(n), &count))
 CALL(cut_tail, armfile_cut_tail(state, file, n, &count))
-CALL(ask_change, armfile_ask_change(state, n, file, n, file, n, asked))
-CALL(ask_append, armfile_ask_append(state, file, n, asked))
-CALL(ask_prepend, armfile_ask_prepend(state, file, WHOLE(n), asked))
-CALL(ask_drop_front, armfile_ask_drop_front(state, file, WHOLE(n), asked))
-CALL(ask_cut_tail, armfile_ask_cut_tail(state, file, n, asked))
-CALL(commit, armfile_commit(state, pending, &count))
 CALL(replay, armfile_replay(state, journal, journal_len, &count, &offset))
 CALL(forecast, armfile_forecast((uint64_t)n << 40, journal, journal_len, &bound, &greatest, &offset))
 CALL(seal, armfile_seal(state, slip, sizeof slip))
@@ -100,10 +93,8 @@ static const struct {
 	{ "gmac", gmac, HASHING }, { "gcm_encrypt", gcm_encrypt, TEXTS }, { "gcm_decrypt", gcm_decrypt, TEXTS }, { "start", start, NOTHING },
 	{ "read", read_file, HASHING }, { "length", length, NOTHING }, { "arm", arm, NOTHING }, { "last", last, NOTHING },
 	{ "sum", sum, NOTHING }, { "hash_key", hash_key, NOTHING }, { "change", change, POWERS }, { "append", append, POWERS },
-	{ "prepend", prepend, POWERS }, { "drop_front", drop_front, POWERS }, { "cut_tail", cut_tail, POWERS },
-	{ "ask_change", ask_change, POWERS }, { "ask_append", ask_append, POWERS }, { "ask_prepend", ask_prepend, POWERS },
-	{ "ask_drop_front", ask_drop_front, POWERS }, { "ask_cut_tail", ask_cut_tail, POWERS }, { "commit", commit, NOTHING },
-	{ "replay", replay, NOTHING }, { "forecast", forecast, NOTHING }, { "seal", seal, NOTHING }, { "check", check, NOTHING },
+	{ "prepend", prepend, POWERS }, { "drop_front", drop_front, POWERS }, { "cut_tail", cut_tail, POWERS }, { "replay", replay, NOTHING },
+	{ "forecast", forecast, NOTHING }, { "seal", seal, NOTHING }, { "check", check, NOTHING },
 };
 
 /* Lengths of five kinds. Below 512 bytes an input is hashed block by block, and from there on by batches of 256 and what is left block by block.
@@ -145,8 +136,8 @@ static void write_journal(size_t n)
 	}
 }
 
-/* What a call at a length takes on this paint, with the state of a file of so many times 2^40 bytes, a slip of it and a pending edit of it, and with
- * a text of this length that was sent and its tag. */
+/* What a call at a length takes on this paint, with the state of a file of so many times 2^40 bytes and a slip of it, and with a text of
+ * this length that was sent and its tag. */
 static size_t on_paint(const char *name, uint64_t (*volatile call)(size_t), size_t n, uint8_t paint)
 {
 	uintptr_t low = (uintptr_t)stack, end = (uintptr_t)&low - ROOM / 2;
@@ -155,8 +146,6 @@ static size_t on_paint(const char *name, uint64_t (*volatile call)(size_t), size
 	if (armfile_start(key, 16, 7, 0, (uint64_t)n << 40, 0xff, state, &count) != 0 || armfile_seal(state, slip, sizeof slip) != 0
 	    || armfile_start(key, 16, 7, LAST(n), (uint64_t)n << 40, 0xff, state, &count) != 0)
 		stop(name, "has no state and slip to be called on");
-	if (armfile_ask_append(state, file, n, pending) != 0)
-		stop(name, "has no pending edit to commit");
 	if (armfile_gcm_encrypt(key, 16, file, NONCE(n), file, n, file, n, sent, n, tag, 16) != 0)
 		stop(name, "has no text that was sent");
 	write_journal(n);
@@ -216,7 +205,7 @@ static void *run(void *unused)
 		most = larger(larger(at[LONG_FEW], at[LONG_MANY]), larger(at[WHOLE_BATCHES], at_short));
 		if (at_0 > at_short)
 			stop(calls[c].name, "takes more stack at length 0 than at others");
-		printf("%-14s %5zu", calls[c].name, most);
+		printf("%-11s %5zu", calls[c].name, most);
 		if (at_short < most)
 			printf(" %5zu", at_short);
 		putchar('\n');

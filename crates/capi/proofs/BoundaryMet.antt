@@ -1,4 +1,4 @@
--- What the boundary's theorem says of appends, of a seal behind them and of lists in which journals stand; of asks and commits it stands in `PendingMet`.
+-- What the boundary's theorem says of appends, of a seal behind them and of lists in which journals stand.
 -- It rests on that theorem (`Boundary`), and on what the demands say of the same lists: the file keeper's `met` and `journal_demands`.
 use mathlib.Core.Path.{◌≡◌, refl, sym, ap, ap₂, subst, ◌∙◌}
 use mathlib.Core.Bool.{true, false, not}
@@ -7,31 +7,32 @@ use mathlib.Core.List.{List, [], ◌∷◌, ◌++◌, map, flatten}
 use Prim.Native.Nat.{ℕ, ◌+◌, ◌≤◌, ◌<◌, ◌^◌}
 use native.Mathlib.Omega.{arith}
 use lib.ListN.{length, replicate, length-append, length-replicate}
-use Rattle.refusals.proofs.Laws.{first_here}
+use borrow.Author.Tests.{lt-ltb, le-ltb}
+use Rattle.refusals.proofs.Laws.{first_here, first_later}
 use Rattle.cipher.specs.Aes.{key_fits}
 use Rattle.field.specs.Field.{bytes_of, sum, max_bytes, Whole}
 use Rattle.field.proofs.JoinsMet.{joins-met}
 use Rattle.gcm.specs.Gcm.{hash_key}
 use Rattle.file.specs.declared.states.State.{State}
-use Rattle.file.specs.declared.pendings.Origin.{Origin}
-use Rattle.file.specs.Edits.{append}
-use Rattle.file.specs.Pendings.{origin_of}
-use Rattle.file.specs.States.{Start, Reading, begin_refusal, started, read_file}
+use Rattle.file.specs.declared.geometry.Kind.TheVariants.{Append}
+use Rattle.file.specs.Edits.{append, kind_of, place_of, given, replacing, kind_causes, kind_refusal, geometry_at, edit_refusal}
+use Rattle.file.specs.States.{Start, Reading, begin_refusal, started, read_file, edited}
 use Rattle.file.specs.Slips.{slip_bytes, slip_number, sealed}
-use Rattle.file.specs.Calls.{Call, seal, map_call, is_call}
+use Rattle.file.specs.Calls.{Call, seal}
 use Rattle.file.specs.Machine.{blank, lent as lentFile, machine_refusal}
 use Rattle.file.specs.Runs.{Run, begun, run, begun_from, from_read}
 use Rattle.file.specs.Demands.{AcceptedStart, SlipOf}
 use Rattle.file.specs.Met.{appends, Sealable}
-use Rattle.file.specs.AskCommit.{from_start, from-read}
 use Rattle.file.specs.Parts.{AllAgree, read_state}
+use Rattle.file.proofs.ShapeLaws.{geometry-refusal}
 use Rattle.file.proofs.Calls.{read-accepts}
-use Rattle.file.proofs.Holds.{holds_read}
+use Rattle.file.proofs.Invariant.{holds_read}
+use Rattle.file.proofs.EditAnswers.{edited-refusal}
 use Rattle.file.proofs.Agreement.{Agrees, agrees_start, agrees-read}
-use Rattle.file.proofs.Demand1.{demand_1, asked-refusal}
+use Rattle.file.proofs.Demand1.{demand_1}
 use Rattle.file.proofs.Demand2.{sealing}
 use Rattle.file.proofs.SlipAges.{seal-refusal}
-use Rattle.file.proofs.KnownLists.{append-refusal, longer, seal-accepts}
+use Rattle.file.proofs.KnownLists.{longer, seal-accepts}
 use Rattle.file.proofs.HypothesesMet.{met}
 use Rattle.file.proofs.Parts.{states_join-met}
 use Rattle.journal.specs.Journals.{max_journal, replay_refusal}
@@ -45,8 +46,6 @@ use Rattle.capi.specs.Clauses.{join_result}
 use Rattle.capi.specs.LentRuns.{lent_call, LentRun, lent_begun, lent_with, lent_further, lent_run, Boundary, states_joined}
 use Rattle.capi.specs.Met.{GrownInBytes, SealedInBytes, BoundaryMet}
 use Rattle.capi.proofs.Boundary.{boundary_theorem}
-use Rattle.capi.proofs.PendingMet.{append-refused, long-refused, ask_refused, commit_refused}
-use Rattle.capi.proofs.PendingMet.{asked_past, others, asks, commits, lent-append, committed_in_bytes}
 
 -- ---- what is refused
 
@@ -55,11 +54,25 @@ key-refused : (key : List ℕ) (n : ℕ) → key_fits key ≡ false → begin_re
 unfolding begin_refusal
 key-refused key n k = sym (first_here _ _ _ (ap not k))
 
+-- an append past the limit
+append-refused : (st : State) (s : List ℕ) → st.n ≤ max_bytes → max_bytes < st.n + length s → (edited st (append s)).refusal ≡ 2
+unfolding edit_refusal geometry_at kind_of place_of given replacing kind_refusal kind_causes
+append-refused st s short past =
+    edited-refusal st (append s)
+    ∙ geometry-refusal Append 0 (length s) 0 st.n
+    ∙ sym (first_later _ _ _ (le-ltb max_bytes st.n short) (first_here _ _ _ (lt-ltb _ _ past)))
+
 -- a journal of too many bytes, whatever the state's length
 journal_refused : (n k : ℕ) → max_journal < k → replay_refusal n (replicate k 0) ≢ 0
 journal_refused n k long z = omega (arith, long, (passed n (replicate k 0) z).1, length-replicate {A = ℕ} k 0)
 
 -- ---- lists of appends
+
+-- two lists one after the other
+lent-append : (l : LentRun) (cs ds : List Call) → lent_run l (cs ++ ds) ≡ lent_run (lent_run l cs) ds
+unfolding lent_run
+lent-append l [] ds = refl
+lent-append l (c ∷ cs) ds = lent-append (lent_further l c) cs ds
 
 grows : (s : Start) → AcceptedStart s → (lent : List ℕ) (count : ℕ) (parts : List (List ℕ)) → s.n + length (flatten parts) ≤ max_bytes
     → let x = start_call s lent count in
@@ -79,10 +92,6 @@ grows s a lent count parts short =
           let two = append-refused (begun_from s (appends parts)).state more (rw g.lengths short) (rw g.lengths over) in
           let left = x.kept (λ z. omega (arith, two, z)) in
           λ i. record { refusal = (x.refusal ∙ two) i; state = left.0 i; count = left.1 i };
-      asked_past = asked_past s a parts short _ b.held;
-      asks = λ more stood fits. asks s a parts short _ b.held more fits stood;
-      commits = λ more stood count fits. commits s a parts short _ b.held more fits stood count;
-      others = others s a parts short _ b.held;
       replays = λ more fit room.
           let x = b.held.replays (append_journal more) in
           let whole = replay-met.whole (begun_from s (appends parts)) more fit (rw g.lengths room) in
@@ -101,7 +110,7 @@ module _ (key : List ℕ) (arm : ℕ) (small : arm < 2 ^ 32) (b : Run) (true-so-
     (out : List ℕ) (room : length out ≡ slip_bytes) where
   seals : Sealable key arm (b.machine.bytes ++ flatten parts) out (run b (appends parts)) (run b (appends parts ++ (seal out ∷ [])))
       → SealedInBytes key arm b.machine.last (b.machine.bytes ++ flatten parts) (lent_run l (appends parts)).state out
-  unfolding lent_run lent_further lent_with lent_call is_call map_call
+  unfolding lent_run lent_further lent_with lent_call
   seals known =
       let r = run b (appends parts) in
       let lr = lent_run l (appends parts) in
@@ -160,11 +169,6 @@ boundary_met =
       read_seals = λ r a lent parts short left out room.
           seals r.key r.arm a.arm (begun (read_file r).state (lentFile r)) tt (lent_begun (read_call r lent).state) (agrees-read r a)
           (boundary_theorem.read r a lent) parts short left out room (met.read_sealable r a parts short left out room);
-      start_commits = λ s a lent count calls e.
-          committed_in_bytes s.key s.arm (begun (started s).state (blank s)) _ (agrees_start s a) (from_start s a) (boundary_theorem.start s a lent count)
-          calls e;
-      read_commits = λ r a lent calls e.
-          committed_in_bytes r.key r.arm (begun (read_file r).state (lentFile r)) _ (agrees-read r a) (from-read r a) (boundary_theorem.read r a lent) calls e;
       start_refused = λ s k lent count.
           let x = boundary_theorem.starts s lent count in
           let one = demand_1.start_causes s ∙ key-refused s.key s.n k in
@@ -175,18 +179,11 @@ boundary_met =
           let one = demand_1.read_causes r ∙ key-refused r.key (length r.file) k in
           λ i. record { refusal = (x.refusal ∙ one) i; state = x.kept (λ z. omega (arith, one, z)) i };
       journal_refused = λ lent l small k long. boundary_theorem.whole lent (replicate k 0) l small (journal_refused (state_from lent).n k long);
-      ask_refused = λ lent l long e stood. ask_refused lent _ e stood (boundary_theorem.asks lent l e stood) (long-refused _ e long);
-      commit_refused = λ lent l short pending count other. unfold origin_of in
-          commit_refused lent _ pending count (boundary_theorem.commits lent l pending count) short (λ e. other (sym (ap (λ (o : Origin). o.key) e)));
-      append_commits = λ lent l more stood count fits.
-          let accepted = asked-refusal (state_from lent) (append more) ∙ append-refusal (state_from lent).n more fits in
-          (boundary_theorem.in_two lent (append more) stood count).commits l ((boundary_theorem.asks lent l (append more) stood).refusal ∙ accepted);
       start_works = λ s a lent count ts.
           let b = boundary_theorem.start_tasks s a lent count ts in
           let same = (journal_demands.start s a ts).0 in
           record {
             state = b.held.state ∙ sym same.state;
-            pendings = b.held.pendings ∙ sym same.pendings;
             total = b.held.total ∙ sym same.total;
             refusals = b.refusals ∙ sym same.refusals;
           };
@@ -195,7 +192,6 @@ boundary_met =
           let same = (journal_demands.read r a ts).0 in
           record {
             state = b.held.state ∙ sym same.state;
-            pendings = b.held.pendings ∙ sym same.pendings;
             total = b.held.total ∙ sym same.total;
             refusals = b.refusals ∙ sym same.refusals;
           };

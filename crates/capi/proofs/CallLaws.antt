@@ -19,19 +19,13 @@ use Rattle.file.specs.declared.causes.Answer.TheVariants as answer
 use Rattle.file.specs.declared.states.State.{State}
 use Rattle.file.specs.declared.states.Answered.{Answered}
 use Rattle.file.specs.declared.states.Outcome.TheVariants as outcome
-use Rattle.file.specs.declared.pendings.Asked.{Asked}
-use Rattle.file.specs.declared.pendings.CommitOutcome.TheVariants as commitOutcome
-use Rattle.file.specs.declared.pendings.Committed.{Committed}
-use Rattle.file.specs.declared.pendings.Pending.{Pending}
 use Rattle.file.specs.declared.sealing.Sealed.{Sealed}
 use Rattle.file.specs.declared.sealing.Verdict.{Verdict}
 use Rattle.file.specs.declared.sealing.Checked.{Checked}
 use Rattle.file.specs.declared.sealing.Checked.TheVariants as answered
 use Rattle.file.specs.Clauses.{cause_number, answer_refusal, outcome_refusal, outcome_count, state_answer, seal_answer, check_answer}
-use Rattle.file.specs.Clauses.{ask_answer, commit_outcome_refusal, commit_outcome_count, commit_answer}
 use Rattle.file.specs.Edits.{Edit}
 use Rattle.file.specs.States.{StateAnswer, Start, started, Reading, read_file, edited}
-use Rattle.file.specs.Pendings.{AskAnswer, asked, committed}
 use Rattle.file.specs.Slips.{SealAnswer, sealed, CheckAnswer, checked}
 use Rattle.file.proofs.ShapeLaws.{cause_pos}
 use Rattle.journal.specs.declared.forecasting.Forecasted.{Forecasted}
@@ -40,10 +34,10 @@ use Rattle.journal.specs.Clauses as journal
 use Rattle.journal.specs.Clauses.{replay_answer, forecast_answer}
 use Rattle.journal.specs.Journals.{replayed}
 use Rattle.journal.specs.Forecasts.{forecast_at, forecasted}
-use Rattle.capi.specs.Bytes.{packed_state, state_from, packed_pending, pending_from}
-use Rattle.capi.specs.Calls.{EditCall, kept, edit_call, start_call, AskCall, kept_pending, ask_call, commit_call, read_call, SealCall, stamped, seal_call}
+use Rattle.capi.specs.Bytes.{packed_state, state_from}
+use Rattle.capi.specs.Calls.{EditCall, kept, edit_call, start_call, read_call, SealCall, stamped, seal_call}
 use Rattle.capi.specs.Calls.{CheckCall, verdict_byte, judged, check_call, written, replay_call, handed, join_call}
-use Rattle.capi.specs.Clauses.{edit_result, ask_result, read_result, seal_result, check_result, replay_result, join_result}
+use Rattle.capi.specs.Clauses.{edit_result, read_result, seal_result, check_result, replay_result, join_result}
 
 -- a number that is a cause's is not 0
 refusal : (n : ℕ) (c : Cause) → n ≡ cause_number c → n ≡ 0 → ⊥
@@ -85,51 +79,6 @@ pub read-call : (r : Reading) (state : List ℕ) {a : StateAnswer} {x : EditCall
 unfolding read_call
 read-call r state ea ex =
     ap (λ (y : EditCall). read_result y.refusal y.state) (ex ∙ ap (λ (b : StateAnswer). kept b state 0) ea)
-
--- ---- ask and commit
-
-module _ (a : Asked) (pending : List ℕ) where
-  pub kept_pending-refused : {c : Cause} {n : ℕ} → a.answer ≡ answer.Refused c → n ≡ cause_number c
-      → ask_result n pending ≡ kept_pending (ask_answer a) pending
-  unfolding kept_pending
-  kept_pending-refused {c} {n} x y =
-      let z : answer_refusal a.answer ≡ cause_number c = ap answer_refusal x in
-      simp (ne_eqb _ _ (refusal _ c z)) (ap (λ (m : ℕ). ask_result m pending) (y ∙ sym z))
-
-  pub kept_pending_done : {b : List ℕ} → a.answer ≡ answer.Done → b ≡ packed_pending a.pending
-      → ask_result 0 b ≡ kept_pending (ask_answer a) pending
-  unfolding kept_pending
-  kept_pending_done x y =
-      let z : answer_refusal a.answer ≡ 0 = ap answer_refusal x in
-      simp (eq-eqb _ _ z) (ap (ask_result 0) y)
-
--- the ask of the state that was read
-pub ask-call : (state : List ℕ) (e : Edit) (pending : List ℕ) {st : State} {a : AskAnswer} {x : AskCall} → st ≡ state_from state
-    → a ≡ asked st e → x ≡ kept_pending a pending → x ≡ ask_call state e pending
-unfolding ask_call
-ask-call state e pending es ea ex =
-    ex ∙ ap (λ (b : AskAnswer). kept_pending b pending) (ea ∙ ap (λ (t : State). asked t e) es)
-
-module _ (e : Committed) (state : List ℕ) (count : ℕ) where
-  pub committed-refused : {c : Cause} {n : ℕ} → e.outcome ≡ commitOutcome.Refused c → n ≡ cause_number c
-      → edit_result n state count ≡ kept (commit_answer e) state count
-  unfolding kept
-  committed-refused {c} {n} x y =
-      let z : commit_outcome_refusal e.outcome ≡ cause_number c = ap commit_outcome_refusal x in
-      simp (ne_eqb _ _ (refusal _ c z)) (ap (λ (m : ℕ). edit_result m state count) (y ∙ sym z))
-
-  pub committed_done : {n : ℕ} {b : List ℕ} → e.outcome ≡ commitOutcome.Done n → b ≡ packed_state e.state
-      → edit_result 0 b n ≡ kept (commit_answer e) state count
-  unfolding kept
-  committed_done {n} {b} x y =
-      let z : commit_outcome_refusal e.outcome ≡ 0 = ap commit_outcome_refusal x in
-      simp (eq-eqb _ _ z) (ap₂ (edit_result 0) y (sym (ap commit_outcome_count x)))
-
--- the commit of the state and the pending edit that were read
-pub commit-call : (state pending : List ℕ) (count : ℕ) {st : State} {p : Pending} {a : StateAnswer} {x : EditCall} → st ≡ state_from state
-    → p ≡ pending_from pending → a ≡ committed st p → x ≡ kept a state count → x ≡ commit_call state pending count
-unfolding commit_call
-commit-call state pending count es ep ea ex = ex ∙ ap (λ (b : StateAnswer). kept b state count) (ea ∙ ap₂ committed es ep)
 
 -- ---- seal
 

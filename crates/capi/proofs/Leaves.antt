@@ -1,7 +1,6 @@
--- What each call leaves, field by field: of start and read whatever was lent, and of the others in the bytes of a state whose fields have room. What an ask
--- and a commit leave stands in `PendingLeaves`.
--- It rests on the state's round trip (`StateBytes`), on what is kept of a call (`KeptCalls`), on demand 1 and on the file keeper's invariant.
-use mathlib.Core.Path.{◌≡◌, refl, sym, ap, subst, ◌∙◌}
+-- What each call leaves, field by field: of start and read whatever was lent, and of the others in the bytes of a state whose fields have room.
+-- It rests on the state's round trip (`StateBytes`), on demand 1 and on the file keeper's invariant.
+use mathlib.Core.Path.{◌≡◌, refl, sym, ap, ap₂, subst, ◌∙◌}
 use mathlib.Core.Bool.{Bool, true, cond}
 use mathlib.Core.Logic.{◌↔◌, ◌≢◌, ◌⊎◌, inl, inr}
 use mathlib.Core.List.{List}
@@ -21,21 +20,20 @@ use Rattle.file.specs.declared.states.State.{State}
 use Rattle.file.specs.declared.sealing.Verdict.{Verdict}
 use Rattle.file.specs.declared.sealing.Verdict.TheVariants.{NotGenuine, Current, Stale, Ahead}
 use Rattle.file.specs.Edits.{Edit}
-use Rattle.file.specs.States.{key_of, Start, Reading, edited, started, read_file}
+use Rattle.file.specs.States.{key_of, StateAnswer, Start, Reading, edited, started, read_file}
 use Rattle.file.specs.Slips.{SealAnswer, sealed, CheckAnswer, checked, Finds}
 use Rattle.file.specs.Machine.{Machine}
 use Rattle.file.proofs.Calls.{begun_start, begun-read}
 use Rattle.file.proofs.Demand1.{edited_kept, sealed_kept}
 use Rattle.file.proofs.BlankStart.{blank_start}
-use Rattle.file.proofs.Holds.{Holds, holds_start, holds_read}
+use Rattle.file.proofs.Invariant.{Holds, holds_start, holds_read}
 use Rattle.journal.specs.Journals.{replayed}
 use Rattle.capi.specs.Bytes.{packed_state, state_from}
 use Rattle.capi.specs.Calls.{EditCall, kept, edit_call, start_call, read_call, stamped, seal_call}
 use Rattle.capi.specs.Calls.{CheckCall, verdict_byte, judged, check_call, written, replay_call}
-use Rattle.capi.specs.Clauses.{check_result}
+use Rattle.capi.specs.Clauses.{edit_result, check_result}
 use Rattle.capi.specs.Leaves.{StartLeaves, ReadLeaves, EditLeaves, SealLeaves, CheckLeaves, ReplayLeaves}
 use Rattle.capi.proofs.StateBytes.{HasRoom, state-back}
-use Rattle.capi.proofs.KeptCalls.{kept_accepted, kept_otherwise, kept_refusal, kept_leaves}
 
 -- every field of an editor's state has room in its bytes
 pub has_room : (key : List ℕ) (arm : ℕ) → key_fits key ≡ true → arm < 2 ^ 32 → (st : State) (m : Machine) → Holds key arm st m → HasRoom st
@@ -50,6 +48,48 @@ has_room key arm k w st m h =
       arm = subst (λ (x : ℕ). x < 2 ^ 32) (sym h.same_arm) w;
       last = omega arith;
     }
+
+-- ---- a call on a state, kept where it is accepted
+
+module _ (a : StateAnswer) (lent : List ℕ) (count : ℕ) where
+  pub kept_accepted : a.refusal ≡ 0 → kept a lent count ≡ edit_result 0 (packed_state a.state) a.count
+  unfolding kept
+  kept_accepted z = simp (eq-eqb _ _ z)
+
+  kept_otherwise : a.refusal ≢ 0 → kept a lent count ≡ edit_result a.refusal lent count
+  unfolding kept
+  kept_otherwise z = simp (ne_eqb _ _ z)
+
+  kept_tells : (a.refusal ≡ 0) ⊎ (0 < a.refusal) → (kept a lent count).refusal ≡ a.refusal
+  kept_tells (inl z) = ap (λ (x : EditCall). x.refusal) (kept_accepted z) ∙ sym z
+  kept_tells (inr z) = ap (λ (x : EditCall). x.refusal) (kept_otherwise (λ y. omega arith))
+
+  kept_refusal : (kept a lent count).refusal ≡ a.refusal
+  kept_refusal = kept_tells (eq-zero-or-pos a.refusal)
+
+-- it leaves the bytes of the state after it, refused or not, where a refusal keeps the state
+kept_state : (a : StateAnswer) (st : State) (count : ℕ) → (a.refusal ≢ 0 → a.state ≡ st)
+    → (kept a (packed_state st) count).state ≡ packed_state a.state
+kept_state a st count same = by (eq-zero-or-pos a.refusal)
+  where
+    by : (a.refusal ≡ 0) ⊎ (0 < a.refusal) → (kept a (packed_state st) count).state ≡ packed_state a.state
+    by (inl z) = ap (λ (x : EditCall). x.state) (kept_accepted a (packed_state st) count z)
+    by (inr z) =
+        let refused : a.refusal ≢ 0 = λ y. omega arith in
+        ap (λ (x : EditCall). x.state) (kept_otherwise a (packed_state st) count refused) ∙ ap packed_state (sym (same refused))
+
+-- and the count, where what was lent is 0 and a refusal counts nothing
+pub kept_same : (a : StateAnswer) (st : State) → (a.refusal ≢ 0 → (a.state ≡ st) × (a.count ≡ 0))
+    → kept a (packed_state st) 0 ≡ edit_result a.refusal (packed_state a.state) a.count
+kept_same a st same = by (eq-zero-or-pos a.refusal)
+  where
+    by : (a.refusal ≡ 0) ⊎ (0 < a.refusal) → kept a (packed_state st) 0 ≡ edit_result a.refusal (packed_state a.state) a.count
+    by (inl z) = kept_accepted a (packed_state st) 0 z ∙ ap (λ (n : ℕ). edit_result n (packed_state a.state) a.count) (sym z)
+    by (inr z) =
+        let refused : a.refusal ≢ 0 = λ y. omega arith in
+        let p = same refused in
+        kept_otherwise a (packed_state st) 0 refused
+        ∙ ap₂ (λ (x : State) (n : ℕ). edit_result a.refusal (packed_state x) n) (sym p.0) (sym p.1)
 
 -- ---- start and read
 
@@ -136,10 +176,19 @@ module _ (st : State) (room : HasRoom st) where
   pub edit-leaves : (e : Edit) (count : ℕ) → HasRoom (edited st e).state → EditLeaves (packed_state st) st e count
   unfolding edit_call
   edit-leaves e count later =
-      let back = state-back st room in
-      let left = kept_leaves (edited st e) (packed_state st) count (ap (λ (x : State). kept (edited x e) (packed_state st) count) back)
-      (λ z. (edited_kept st e z).0 ∙ sym back) later in
-      record { refusal = left.refusal; state = left.state; counts = left.counts; kept = left.kept }
+      let a = edited st e in
+      let same : edit_call (packed_state st) e count ≡ kept a (packed_state st) count =
+      ap (λ (x : State). kept (edited x e) (packed_state st) count) (state-back st room) in
+      record {
+        refusal = ap (λ (x : EditCall). x.refusal) same ∙ kept_refusal a (packed_state st) count;
+        state = ap (λ (x : EditCall). state_from x.state) same
+            ∙ ap state_from (kept_state a st count (λ z. (edited_kept st e z).0))
+            ∙ state-back a.state later;
+        counts = λ z. ap (λ (x : EditCall). x.count) (same ∙ kept_accepted a (packed_state st) count z);
+        kept = λ z.
+            let y = same ∙ kept_otherwise a (packed_state st) count z in
+            (ap (λ (x : EditCall). x.state) y, ap (λ (x : EditCall). x.count) y);
+      }
 
   pub seal-leaves : (out : List ℕ) → HasRoom (sealed st out).state → SealLeaves (packed_state st) st out
   unfolding seal_call

@@ -10,8 +10,8 @@ use lib.Seq.{sets, length-take-le, take_all, take_at, take-add}
 use Rattle.cipher.specs.declared.keys.Key.{Key}
 use Rattle.field.specs.declared.blocks.Block.{Block}
 use Rattle.field.specs.Field.{number, bytes, block_at, bytes_of, Small}
-use Rattle.field.proofs.Bytes.{number_lt, number-bytes, number-append_left, number-append_right, length-bytes, bytes-number}
-use Rattle.field.proofs.BlockAt.{small-block_at, block_at-append_left, block_at-append_right, block_at-bytes_of, length-block_bytes, bytes_of-block_at}
+use Rattle.field.proofs.Bytes.{number-bytes, number-append_left, number-append_right, length-bytes, bytes-number}
+use Rattle.field.proofs.BlockAt.{block_at-append_left, block_at-append_right, block_at-bytes_of, length-block_bytes, bytes_of-block_at}
 use Rattle.file.specs.declared.states.State.{State}
 use Rattle.field.proofs.Stores.{stored-none, stored-list, stored_next, stored-all}
 use Rattle.capi.specs.Bytes.{state_bytes, packed_state, state_from}
@@ -58,27 +58,13 @@ pub record HasRoom (st : State) : Type 0 where
   pub arm : st.arm < 2 ^ 32
   pub last : st.last < 2 ^ 64
 
--- as do those that are read of `state_bytes` bytes
-pub read-room : (b : List ℕ) → length b ≡ state_bytes → HasRoom (state_from b)
-unfolding state_from
-read-room b l =
-    record {
-      key = key-size b l;
-      h = small-block_at b 1;
-      i = small-block_at b 2;
-      s = small-block_at b 3;
-      n = number_lt b 64 8;
-      arm = number_lt b 72 4;
-      last = number_lt b 76 8;
-    }
-
 -- and the state then takes `state_bytes` bytes
 pub packed-length : (st : State) → HasRoom st → length (packed_state st) ≡ state_bytes
 unfolding packed_state
 packed-length st room = simp (length-append, length-block_bytes, length-bytes, room.key)
 
 -- a block, and a number of k bytes, that stand behind a list and before another
-pub block-between : (p t : List ℕ) (b : Block) (i : ℕ) → length p ≡ 16 * i → Small b → block_at (p ++ bytes_of b ++ t) i ≡ b
+block-between : (p t : List ℕ) (b : Block) (i : ℕ) → length p ≡ 16 * i → Small b → block_at (p ++ bytes_of b ++ t) i ≡ b
 block-between p t b i l small =
     let size : length (p ++ bytes_of b) ≡ 16 * i + 16 = length-append p (bytes_of b) ∙ ap₂ ◌+◌ l (length-block_bytes b) in
     let place : i + 0 ≡ i = omega arith in
@@ -87,7 +73,7 @@ block-between p t b i l small =
     ∙ block_at-append_right p (bytes_of b) i 0 l
     ∙ block_at-bytes_of b small
 
-pub number-between : (p t : List ℕ) (at k v : ℕ) → length p ≡ at → v < 256 ^ k → number (p ++ bytes k v ++ t) at k ≡ v
+number-between : (p t : List ℕ) (at k v : ℕ) → length p ≡ at → v < 256 ^ k → number (p ++ bytes k v ++ t) at k ≡ v
 number-between p t at k v l small =
     let size : length (p ++ bytes k v) ≡ at + k = length-append p (bytes k v) ∙ ap₂ ◌+◌ l (length-bytes k v) in
     let place : at ≡ length p + 0 = omega arith in

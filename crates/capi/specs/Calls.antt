@@ -1,19 +1,18 @@
--- The calls on a lent state, for all inputs: the refusal, and what state, count, slip, verdict and pending edit hold afterwards. Each is the file
+-- The calls on a lent state, for all inputs: the refusal, and what state, count, slip and verdict hold afterwards. Each is the file
 -- keeper's own definition between `state_from` and `packed_state`; a refusal leaves what stood there. And the join, which has no state.
 use Rattle.std.specs.Prelude.{cond, List, ℕ, eqb}
 use Rattle.field.specs.Field.{bytes_of, JoinAnswer, joined}
 use Rattle.file.specs.Edits.{Edit}
 use Rattle.file.specs.States.{StateAnswer, Start, Reading, started, read_file, edited}
-use Rattle.file.specs.Pendings.{AskAnswer, asked, committed}
 use Rattle.file.specs.declared.sealing.Verdict.{Verdict}
 use Rattle.file.specs.declared.sealing.Verdict.TheVariants.{NotGenuine, Current, Stale, Ahead}
 use Rattle.file.specs.Slips.{SealAnswer, sealed, CheckAnswer, checked}
 use Rattle.journal.specs.Journals.{ReplayAnswer, replayed}
-use Rattle.capi.specs.Bytes.{packed_state, state_from, packed_pending, pending_from}
+use Rattle.capi.specs.Bytes.{packed_state, state_from}
 
 -- ---- the five edits and start
 
--- what an edit, a start or a commit leaves: the refusal (document 01, "Causes and their numbers") or 0, the lent state and the lent count
+-- what an edit or a start leaves: the refusal (document 01, "Causes and their numbers") or 0, the lent state and the lent count
 pub record EditCall : Type 0 where
   pub refusal : ℕ
   pub state : List ℕ
@@ -33,26 +32,6 @@ edit_call state e count = kept (edited (state_from state) e) state count
 -- start: the file keeper's `started`, its state as `packed_state` (document 01, "The file and its five edits"; document 02, Q-4)
 unfoldable pub start_call : Start → (state : List ℕ) (count : ℕ) → EditCall
 start_call s state count = kept (started s) state count
-
--- ---- ask and commit
-
--- what an ask leaves: the refusal (document 02, Q-8) or 0, and the lent pending edit; the state is only read
-pub record AskCall : Type 0 where
-  pub refusal : ℕ
-  pub pending : List ℕ
-
--- what an ask leaves (document 02, Q-8): where it is accepted, the pending edit's bytes; where it is refused, what stood there
-unfoldable pub kept_pending : AskAnswer → (pending : List ℕ) → AskCall
-kept_pending a pending =
-    cond (eqb a.refusal 0) (record { refusal = 0; pending = packed_pending a.pending }) (record { refusal = a.refusal; pending = pending })
-
--- an ask: the file keeper's `asked` of `state_from` (document 02, Q-8)
-unfoldable pub ask_call : (state : List ℕ) → Edit → (pending : List ℕ) → AskCall
-ask_call state e pending = kept_pending (asked (state_from state) e) pending
-
--- a commit: the file keeper's `committed` of `state_from` and `pending_from`, kept as an edit is (document 02, Q-8)
-unfoldable pub commit_call : (state pending : List ℕ) (count : ℕ) → EditCall
-commit_call state pending count = kept (committed (state_from state) (pending_from pending)) state count
 
 -- ---- read
 

@@ -1,14 +1,10 @@
 -- What serves contracts and laws alone: what a call leaves as one record, so that a contract is one equation.
 use Rattle.std.specs.Prelude.{List, ℕ}
-use Rattle.capi.specs.Calls.{EditCall, AskCall, ReadCall, SealCall, CheckCall, ReplayCall, JoinCall}
+use Rattle.capi.specs.Calls.{EditCall, ReadCall, SealCall, CheckCall, ReplayCall, JoinCall}
 
--- of an edit, of start and of commit
+-- of an edit and of start
 abbrev pub edit_result : (refusal : ℕ) (state : List ℕ) (count : ℕ) → EditCall
 edit_result refusal state count = record { refusal = refusal; state = state; count = count }
-
--- of an ask
-abbrev pub ask_result : (refusal : ℕ) (pending : List ℕ) → AskCall
-ask_result refusal pending = record { refusal = refusal; pending = pending }
 
 -- of read
 abbrev pub read_result : (refusal : ℕ) (state : List ℕ) → ReadCall

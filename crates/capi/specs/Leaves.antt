@@ -1,19 +1,18 @@
 -- What each call on a state leaves in lent bytes, field by field, beside what the editor answers to it: `lent` are the bytes and `st` is the
 -- editor's state. Numbers are the editor's, the bytes hold the editor's state afterwards (`state_from`), and a refusal leaves what was lent. And what a
 -- join leaves beside what the field answers to it, and how a forecast stands to the replay that follows.
-use Rattle.std.specs.Prelude.{◌≡◌, ◌↔◌, ◌≢◌, List, ℕ, ◌≤◌, length}
+use Rattle.std.specs.Prelude.{◌≡◌, ◌↔◌, ◌≢◌, List, ℕ, ◌≤◌}
 use Rattle.field.specs.Field.{blank_count, bytes_of, joined}
 use Rattle.file.specs.declared.states.State.{State}
 use Rattle.file.specs.declared.sealing.Verdict.TheVariants.{NotGenuine, Current, Stale, Ahead}
 use Rattle.file.specs.Edits.{Edit}
 use Rattle.file.specs.States.{Start, Reading, started, read_file, edited}
-use Rattle.file.specs.Pendings.{asked, committed}
 use Rattle.file.specs.Slips.{sealed, check_refusal, Finds}
 use Rattle.file.specs.Demands.{AcceptedStart, AcceptedRead}
 use Rattle.journal.specs.Journals.{replayed}
 use Rattle.journal.specs.Forecasts.{forecasted}
-use Rattle.capi.specs.Bytes.{state_bytes, state_from, pending_from}
-use Rattle.capi.specs.Calls.{edit_call, start_call, ask_call, commit_call, read_call, seal_call, check_call, replay_call, join_call}
+use Rattle.capi.specs.Bytes.{state_from}
+use Rattle.capi.specs.Calls.{edit_call, start_call, read_call, seal_call, check_call, replay_call, join_call}
 
 -- start (document 02, Q-4): its count is that of a blank file's sum
 pub record StartLeaves (s : Start) (lent : List ℕ) (count : ℕ) : Type 0 where
@@ -34,44 +33,6 @@ pub record EditLeaves (lent : List ℕ) (st : State) (e : Edit) (count : ℕ) : 
   pub state : state_from (edit_call lent e count).state ≡ (edited st e).state
   pub counts : (edited st e).refusal ≡ 0 → (edit_call lent e count).count ≡ (edited st e).count
   pub kept : (edited st e).refusal ≢ 0 → ((edit_call lent e count).state ≡ lent) × ((edit_call lent e count).count ≡ count)
-
--- an ask (document 02, Q-8), which leaves the lent state as it is: where it is accepted, its pending edit has the sum, length and count that the edit would
--- give, and the key, sum and length of the state; `stood` are the 72 bytes lent to it
-pub record AskLeaves (lent : List ℕ) (st : State) (e : Edit) (stood : List ℕ) : Type 0 where
-  pub refusal : (ask_call lent e stood).refusal ≡ (asked st e).refusal
-  pub pending : (asked st e).refusal ≡ 0 → pending_from (ask_call lent e stood).pending ≡ (asked st e).pending
-  pub fields :
-      let after = edited st e in
-      (asked st e).refusal ≡ 0
-      → pending_from (ask_call lent e stood).pending
-      ≡ record {
-        s = after.state.s;
-        n = after.state.n;
-        count = after.count;
-        origin = record { key = st.key; s = st.s; n = st.n };
-      }
-  pub kept : (asked st e).refusal ≢ 0 → (ask_call lent e stood).pending ≡ stood
-
--- a commit of any pending bytes (document 02, Q-8): where it is accepted, the state gets their sum and length and is otherwise as it was
-pub record CommitLeaves (lent : List ℕ) (st : State) (pending : List ℕ) (count : ℕ) : Type 0 where
-  pub refusal : (commit_call lent pending count).refusal ≡ (committed st (pending_from pending)).refusal
-  pub state : state_from (commit_call lent pending count).state ≡ (committed st (pending_from pending)).state
-  pub fields :
-      let p = pending_from pending in
-      (committed st p).refusal ≡ 0
-      → state_from (commit_call lent pending count).state
-      ≡ record { key = st.key; h = st.h; i = st.i; s = p.s; n = p.n; arm = st.arm; last = st.last }
-  pub counts : (committed st (pending_from pending)).refusal ≡ 0 → (commit_call lent pending count).count ≡ (pending_from pending).count
-  pub kept :
-      (committed st (pending_from pending)).refusal ≢ 0
-      → ((commit_call lent pending count).state ≡ lent) × ((commit_call lent pending count).count ≡ count)
-
--- an ask and then its commit is the edit itself, in any lent state (document 02, Q-8): the ask refuses as the edit does, and where it doesn't, the commit
--- leaves what the edit does
-pub record EditInTwo (lent : List ℕ) (e : Edit) (stood : List ℕ) (count : ℕ) : Type 0 where
-  pub refusal : (ask_call lent e stood).refusal ≡ (edit_call lent e count).refusal
-  pub commits :
-      length lent ≡ state_bytes → (ask_call lent e stood).refusal ≡ 0 → commit_call lent (ask_call lent e stood).pending count ≡ edit_call lent e count
 
 -- a seal (document 01, "Slip, seal, check")
 pub record SealLeaves (lent : List ℕ) (st : State) (out : List ℕ) : Type 0 where

@@ -1,12 +1,12 @@
--- A list of calls through the boundary, each on the lent bytes that the one before it left, and a commit on those that an ask before it wrote, and what
--- it has in common with the demands' run of the same calls; and the same of a list in which journals stand. The proof is `boundary_theorem` in proofs/Boundary.
-use Rattle.std.specs.Prelude.{◌≡◌, cond, ◌≢◌, ℕ, ◌+◌, ◌≤◌, ◌<◌, eqb, length, get_or, replicate}
+-- A list of calls through the boundary, each on the lent bytes that the one before it left, and what it has in common with the demands' run
+-- of the same calls; and the same of a list in which journals stand. The proof is `boundary_theorem` in proofs/Boundary.
+use Rattle.std.specs.Prelude.{◌≡◌, ◌≢◌, ℕ, ◌+◌, ◌≤◌, ◌<◌, length, get_or}
 use mathlib.Core.List.{List, [], ◌∷◌, ◌++◌, map, flatten}
 use Rattle.field.specs.Field.{bytes_of, sum, max_bytes, Whole}
 use Rattle.gcm.specs.Gcm.{hash_key}
 use Rattle.file.specs.Edits.{Edit}
 use Rattle.file.specs.States.{Start, Reading, started, read_file}
-use Rattle.file.specs.Calls.{CallOf, Call, edit, seal, check, ask, commit, map_call, is_call}
+use Rattle.file.specs.Calls.{Call, edit, seal, check}
 use Rattle.file.specs.Machine.{blank, lent as lentFile}
 use Rattle.file.specs.Runs.{Run, begun, begun_from, from_read}
 use Rattle.file.specs.Demands.{AcceptedStart, AcceptedRead}
@@ -14,97 +14,58 @@ use Rattle.file.specs.Parts.{AllAgree}
 use Rattle.journal.specs.Journals.{replay_refusal}
 use Rattle.journal.specs.Singly.{Task, call, replay, as_calls, task_refusals}
 use Rattle.journal.specs.Forecasts.{forecasted}
-use Rattle.capi.specs.Bytes.{state_bytes, state_from, pending_bytes, pending_from}
-use Rattle.capi.specs.Calls.{EditCall, edit_call, start_call, ask_call, commit_call, read_call, seal_call, check_call, replay_call, JoinCall, join_call}
-use Rattle.capi.specs.Leaves.{StartLeaves, ReadLeaves, EditLeaves, AskLeaves, CommitLeaves, EditInTwo, SealLeaves, CheckLeaves, ReplayLeaves}
-use Rattle.capi.specs.Leaves.{ForecastHolds, JoinLeaves}
+use Rattle.capi.specs.Bytes.{state_bytes, state_from}
+use Rattle.capi.specs.Calls.{EditCall, edit_call, start_call, read_call, seal_call, check_call, replay_call, JoinCall, join_call}
+use Rattle.capi.specs.Leaves.{StartLeaves, ReadLeaves, EditLeaves, SealLeaves, CheckLeaves, ReplayLeaves, ForecastHolds, JoinLeaves}
 
--- what a call leaves: its refusal, the lent state, the count it reports, 0 where it reports none, and the lent pending edit, if an accepted ask wrote one
--- (document 02, Q-8); it serves laws alone
-pub record LentAnswer : Type 0 where
-  pub refusal : ℕ
-  pub state : List ℕ
-  pub count : ℕ
-  pub pending : List (List ℕ)
+-- one call: its refusal, the lent state afterwards, which a check can't write, and the count it reports, 0 where it reports none; it serves
+-- laws alone
+unfoldable pub lent_call : List ℕ → Call → EditCall
+lent_call state (edit e) = edit_call state e 0
+lent_call state (seal out) = record { refusal = (seal_call state out).refusal; state = (seal_call state out).state; count = 0 }
+lent_call state (check slip) = record { refusal = (check_call state slip 0).refusal; state = state; count = 0 }
 
--- one that writes no pending edit; it serves laws alone
-abbrev pub unasked : (refusal : ℕ) (state : List ℕ) (count : ℕ) → LentAnswer
-unasked refusal state count = record { refusal = refusal; state = state; count = count; pending = [] }
-
--- what an edit or a commit leaves; it serves laws alone
-abbrev pub from_edit : EditCall → LentAnswer
-from_edit a = unasked a.refusal a.state a.count
-
--- the bytes that are lent to an ask; it serves laws alone
-abbrev pub lent_to_ask : List ℕ
-lent_to_ask = replicate pending_bytes 0
-
--- one call; a check and an ask can't write the state, and a commit is of lent bytes; it serves laws alone
-unfoldable pub lent_call : List ℕ → CallOf (List ℕ) → LentAnswer
-lent_call state (edit e) = from_edit (edit_call state e 0)
-lent_call state (seal out) = unasked (seal_call state out).refusal (seal_call state out).state 0
-lent_call state (check slip) = unasked (check_call state slip 0).refusal state 0
-lent_call state (ask e) =
-    let a = ask_call state e lent_to_ask in
-    record { refusal = a.refusal; state = state; count = 0; pending = cond (eqb a.refusal 0) (a.pending ∷ []) [] }
-lent_call state (commit pending) = from_edit (commit_call state pending 0)
-
--- the lent state, the pending edits that accepted asks wrote, the refusals answered and the sum of the counts reported; it serves laws alone
+-- the lent state, the refusals answered and the sum of the counts reported; it serves laws alone
 pub record LentRun : Type 0 where
   pub state : List ℕ
-  pub pendings : List (List ℕ)
   pub refusals : List ℕ
   pub total : ℕ
 
 -- before the first call; it serves laws alone
 unfoldable pub lent_begun : List ℕ → LentRun
-lent_begun state = record { state = state; pendings = []; refusals = []; total = 0 }
+lent_begun state = record { state = state; refusals = []; total = 0 }
 
 -- with what one call more left; it serves laws alone
-unfoldable pub lent_with : LentRun → LentAnswer → LentRun
-lent_with l a =
-    record {
-      state = a.state;
-      pendings = l.pendings ++ a.pending;
-      refusals = l.refusals ++ (a.refusal ∷ []);
-      total = l.total + a.count;
-    }
+unfoldable pub lent_with : LentRun → EditCall → LentRun
+lent_with l a = record { state = a.state; refusals = l.refusals ++ (a.refusal ∷ []); total = l.total + a.count }
 
--- a call of a list over the boundary: its commit is of the lent bytes named, of those that the list's accepted asks wrote; it serves laws alone
-abbrev pub with_lent : List (List ℕ) → Call → CallOf (List ℕ)
-with_lent pendings c = map_call (λ (i : ℕ). get_or pendings i lent_to_ask) c
-
--- one call more, on the state that the one before it left; a commit that names no accepted ask before it is passed over (document 02, Q-8); it serves
--- laws alone
+-- one call more, on the state that the one before it left; it serves laws alone
 unfoldable pub lent_further : LentRun → Call → LentRun
-lent_further l c = cond (is_call (length l.pendings) c) (lent_with l (lent_call l.state (with_lent l.pendings c))) l
+lent_further l c = lent_with l (lent_call l.state c)
 
 -- the whole list; it serves laws alone
 unfoldable pub lent_run : LentRun → List Call → LentRun
 lent_run l [] = l
 lent_run l (c ∷ cs) = lent_run (lent_further l c) cs
 
--- one task more: a call, or a replay, which writes state and count refused or not; it serves laws alone
-unfoldable pub lent_task : LentRun → Task → LentRun
-lent_task l (call c) = lent_further l c
-lent_task l (replay j) =
-    let a = replay_call l.state j in
-    lent_with l (unasked a.refusal a.state a.count)
+-- one task: a call, or a replay, which writes state and count refused or not; it serves laws alone
+unfoldable pub lent_task : List ℕ → Task → EditCall
+lent_task state (call c) = lent_call state c
+lent_task state (replay j) =
+    let a = replay_call state j in
+    record { refusal = a.refusal; state = a.state; count = a.count }
 
 -- a list of tasks; it serves laws alone
 unfoldable pub lent_tasks : LentRun → List Task → LentRun
 lent_tasks l [] = l
-lent_tasks l (t ∷ ts) = lent_tasks (lent_task l t) ts
+lent_tasks l (t ∷ ts) = lent_tasks (lent_with l (lent_task l.state t)) ts
 
--- the lent bytes hold the editor's state of a run and its pending edits, the counts are the editor's, and so is what each call that may come next leaves,
--- whatever is lent to it; and no journal makes the file longer than is forecast (document 02, Q-7); the boundary's own statement, in no paper
+-- the lent bytes hold the editor's state of a run, the counts are the editor's, and so is what each call that may come next leaves, whatever is
+-- lent to it; and no journal makes the file longer than is forecast (document 02, Q-7); the boundary's own statement, in no paper
 pub record Held (l : LentRun) (r : Run) : Type 0 where
   pub state : state_from l.state ≡ r.state
-  pub pendings : map pending_from l.pendings ≡ r.pendings
   pub total : l.total ≡ r.total
   pub edits : (e : Edit) (count : ℕ) → EditLeaves l.state r.state e count
-  pub asks : (e : Edit) (stood : List ℕ) → AskLeaves l.state r.state e stood
-  pub commits : (pending : List ℕ) (count : ℕ) → CommitLeaves l.state r.state pending count
   pub seals : (out : List ℕ) → SealLeaves l.state r.state out
   pub checks : (slip : List ℕ) (verdict : ℕ) → CheckLeaves l.state r.state slip verdict
   pub replays : (j : List ℕ) → ReplayLeaves l.state r.state j
@@ -122,11 +83,10 @@ states_joined one states lent n =
     lent n
 
 -- a start and a read leave what the file keeper's do, whatever was lent. After any list of calls from an accepted start and from an accepted
--- read the lent bytes hold the editor's state and its pending edits, and the numbers are the editor's; after any list in which journals stand as well,
--- they are those of the run in which the journals stand as their edits, and the numbers are the plain machine's, task by task. A journal that is
--- refused as a whole leaves the lent state as it was. A replay stops as was forecast, an ask and a commit leave what the file keeper's do,
--- and one after the other they are the edit, whatever was lent. A join leaves what the field's answers; of lent states that agree with reads of their
--- parts it is the sum and the length of the joined bytes. The boundary's own
+-- read the lent bytes hold the editor's state, and the numbers are the editor's; after any list in which journals stand as well, the state is
+-- that of the run in which they stand as their edits, and the numbers are the plain machine's, task by task. A journal that is refused as a whole
+-- leaves the lent state as it was. A replay stops as was forecast, whatever was lent. A join leaves what the field's answers; of lent states that agree
+-- with reads of their parts it is the sum and the length of the joined bytes. The boundary's own
 pub record BoundaryTheorem : Type 0 where
   pub starts : (s : Start) (lent : List ℕ) (count : ℕ) → StartLeaves s lent count
   pub reads : (r : Reading) (lent : List ℕ) → ReadLeaves r lent
@@ -148,9 +108,6 @@ pub record BoundaryTheorem : Type 0 where
       (state j : List ℕ) → length state ≡ state_bytes → ((i : ℕ) → i < state_bytes → get_or state i 0 < 256)
       → replay_refusal (state_from state).n j ≢ 0 → (replay_call state j).state ≡ state
   pub forecasts : (state j : List ℕ) → ForecastHolds state j
-  pub asks : (state : List ℕ) → length state ≡ state_bytes → (e : Edit) (stood : List ℕ) → AskLeaves state (state_from state) e stood
-  pub commits : (state : List ℕ) → length state ≡ state_bytes → (pending : List ℕ) (count : ℕ) → CommitLeaves state (state_from state) pending count
-  pub in_two : (state : List ℕ) (e : Edit) (stood : List ℕ) (count : ℕ) → EditInTwo state e stood count
   pub joins : (h sums lengths lent : List ℕ) (n : ℕ) → JoinLeaves h sums lengths lent n
   pub parts :
       (key : List ℕ) (states files : List (List ℕ)) → AllAgree key (map state_from states) files → Whole files → length (flatten files) ≤ max_bytes

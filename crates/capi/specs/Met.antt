@@ -1,24 +1,22 @@
 -- What the boundary's theorem says of lists that are known to the end: appends of any parts, and what comes behind them; of what is refused
--- whatever was lent; of lists in which edits are asked for and committed, beside the edits; and of lists in which journals stand, beside the editor that
--- replays them. A hypothesis added to the theorem, such as a bound
+-- whatever was lent; and of lists in which journals stand, beside the editor that replays them. A hypothesis added to the theorem, such as a bound
 -- on its list, would break what is said here. The proof is `boundary_met` in proofs/BoundaryMet.
 use Rattle.std.specs.Prelude.{◌≡◌, true, false, ◌≢◌, ℕ, ◌+◌, ◌*◌, ◌%◌, ◌≤◌, ◌<◌, ◌^◌, length, get_or, replicate}
 use mathlib.Core.List.{List, [], ◌∷◌, ◌++◌, map, flatten}
 use Rattle.cipher.specs.Aes.{key_fits}
 use Rattle.field.specs.Field.{bytes_of, sum, blank_count, max_bytes, Whole, joined}
 use Rattle.gcm.specs.Gcm.{hash_key}
-use Rattle.file.specs.Edits.{Edit, append, geometry_at, edit_refusal, count_of}
+use Rattle.file.specs.Edits.{append}
 use Rattle.file.specs.States.{Start, Reading, started, read_file}
 use Rattle.file.specs.Slips.{slip_bytes, slip_number}
-use Rattle.file.specs.Calls.{Call, edit, ask, commit}
 use Rattle.file.specs.Demands.{AcceptedStart, AcceptedRead, SlipOf}
 use Rattle.file.specs.Met.{appends, append_counts, grown}
 use Rattle.journal.specs.Journals.{max_journal}
 use Rattle.journal.specs.Singly.{Task, Editor, idle, worked_all}
 use Rattle.journal.specs.Forecasts.{forecasted}
 use Rattle.journal.specs.Met.{append_journal, Replayable}
-use Rattle.capi.specs.Bytes.{state_bytes, state_from, pending_from}
-use Rattle.capi.specs.Calls.{EditCall, edit_call, start_call, ask_call, commit_call, read_call, seal_call, check_call, replay_call, join_call}
+use Rattle.capi.specs.Bytes.{state_bytes, state_from}
+use Rattle.capi.specs.Calls.{EditCall, edit_call, start_call, read_call, seal_call, check_call, replay_call, join_call}
 use Rattle.capi.specs.LentRuns.{LentRun, lent_begun, lent_run, lent_tasks, states_joined}
 
 -- a start that left x, and appends behind it that left l: none is refused, the start's count is a blank file's and the total the appends', and the
@@ -33,29 +31,6 @@ pub record GrownInBytes (s : Start) (parts : List (List ℕ)) (x : EditCall) (l 
   pub past :
       (given : List ℕ) (count : ℕ) → max_bytes < s.n + length (flatten parts) + length given
       → edit_call l.state (append given) count ≡ record { refusal = 2; state = l.state; count = count }
-  -- so is an ask for it (document 02, Q-8)
-  pub asked_past :
-      (given stood : List ℕ) → max_bytes < s.n + length (flatten parts) + length given
-      → ask_call l.state (append given) stood ≡ record { refusal = 2; pending = stood }
-  -- an ask for an append that fits is accepted, and its pending edit has the sum and length of the file with the part, which its commit puts in place
-  pub asks :
-      (given stood : List ℕ) → s.n + length (flatten parts) + length given ≤ max_bytes
-      → let a = ask_call l.state (append given) stood in
-      let p = pending_from a.pending in
-      (a.refusal ≡ 0)
-      × (p.s ≡ sum (hash_key s.key) (grown s parts ++ given))
-      × (p.n ≡ s.n + length (flatten parts) + length given)
-  pub commits :
-      (given stood : List ℕ) (count : ℕ) → s.n + length (flatten parts) + length given ≤ max_bytes
-      → let x = commit_call l.state (ask_call l.state (append given) stood).pending count in
-      (x.refusal ≡ 0)
-      × (x.count ≡ count_of (geometry_at (s.n + length (flatten parts)) (append given)))
-      × ((state_from x.state).s ≡ sum (hash_key s.key) (grown s parts ++ given))
-      × ((state_from x.state).n ≡ s.n + length (flatten parts) + length given)
-  -- a commit of bytes that tell of another length is answered 16 and leaves what was lent
-  pub others :
-      (pending : List ℕ) (count : ℕ) → (pending_from pending).origin.n ≢ s.n + length (flatten parts)
-      → commit_call l.state pending count ≡ record { refusal = 16; state = l.state; count = count }
   -- and a journal of appends that fit is replayed to its end
   pub replays :
       (more : List (List ℕ)) → Replayable more → s.n + length (flatten parts) + length (flatten more) ≤ max_bytes
@@ -76,23 +51,14 @@ pub record SealedInBytes (key : List ℕ) (arm last : ℕ) (file lent out : List
   pub number : slip_number (seal_call lent out).slip ≡ last + 1
   pub found : (verdict : ℕ) → check_call (seal_call lent out).state (seal_call lent out).slip verdict ≡ record { refusal = 0; verdict = 1 }
 
--- an edit asked for and then committed in lent bytes leaves the state and the total that the edit called there leaves (document 02, Q-8)
-pub record CommittedInBytes (l : LentRun) (e : Edit) : Type 0 where
-  pub state :
-      state_from (lent_run l (ask e ∷ commit (length l.pendings) ∷ [])).state ≡ state_from (lent_run l (edit e ∷ [])).state
-  pub total : (lent_run l (ask e ∷ commit (length l.pendings) ∷ [])).total ≡ (lent_run l (edit e ∷ [])).total
-
--- lent bytes hold the state and the pending edits of an editor that replays journals, and counts and numbers are its own; ours
+-- lent bytes hold the state of an editor that replays journals, and counts and numbers are its own; ours
 pub record WorkedInBytes (l : LentRun) (w : Editor) : Type 0 where
   pub state : state_from l.state ≡ w.state
-  pub pendings : map pending_from l.pendings ≡ w.pendings
   pub total : l.total ≡ w.total
   pub refusals : l.refusals ≡ w.refusals
 
--- so after every list of appends within the limit, after every list of calls and after every list of tasks, whatever was lent. A start or a read with a key of the wrong
--- length is answered 1 and leaves what was lent, and a journal with more bytes than it may have leaves the lent state. An ask of a state with more bytes
--- than a file may have is answered 2, and a commit in a state of another key 16; both leave what was lent. An append that fits is its ask and then its
--- commit. Files that are each read join to the
+-- so after every list of appends within the limit, and after every list of tasks, whatever was lent. A start or a read with a key of the wrong
+-- length is answered 1 and leaves what was lent, and a journal with more bytes than it may have leaves the lent state. Files that are each read join to the
 -- sum and the length of all their bytes, and a join with a part behind a broken block is answered 5 and leaves what was lent; ours
 pub record BoundaryMet : Type 0 where
   pub start_grows :
@@ -109,14 +75,6 @@ pub record BoundaryMet : Type 0 where
       → r.last + 1 < 2 ^ 64 → (out : List ℕ) → length out ≡ slip_bytes
       → let l = lent_run (lent_begun (read_call r lent).state) (appends parts) in
       SealedInBytes r.key r.arm r.last (r.file ++ flatten parts) l.state out
-  pub start_commits :
-      (s : Start) → AcceptedStart s → (lent : List ℕ) (count : ℕ) (calls : List Call) (e : Edit)
-      → let l = lent_run (lent_begun (start_call s lent count).state) calls in
-      edit_refusal (state_from l.state).n e ≡ 0 → CommittedInBytes l e
-  pub read_commits :
-      (r : Reading) → AcceptedRead r → (lent : List ℕ) (calls : List Call) (e : Edit)
-      → let l = lent_run (lent_begun (read_call r lent).state) calls in
-      edit_refusal (state_from l.state).n e ≡ 0 → CommittedInBytes l e
   pub start_refused :
       (s : Start) → key_fits s.key ≡ false → (lent : List ℕ) (count : ℕ)
       → start_call s lent count ≡ record { refusal = 1; state = lent; count = count }
@@ -124,15 +82,6 @@ pub record BoundaryMet : Type 0 where
   pub journal_refused :
       (lent : List ℕ) → length lent ≡ state_bytes → ((i : ℕ) → i < state_bytes → get_or lent i 0 < 256) → (k : ℕ) → max_journal < k
       → (replay_call lent (replicate k 0)).state ≡ lent
-  pub ask_refused :
-      (lent : List ℕ) → length lent ≡ state_bytes → max_bytes < (state_from lent).n → (e : Edit) (stood : List ℕ)
-      → ask_call lent e stood ≡ record { refusal = 2; pending = stood }
-  pub commit_refused :
-      (lent : List ℕ) → length lent ≡ state_bytes → (state_from lent).n ≤ max_bytes → (pending : List ℕ) (count : ℕ)
-      → (pending_from pending).origin.key ≢ (state_from lent).key → commit_call lent pending count ≡ record { refusal = 16; state = lent; count = count }
-  pub append_commits :
-      (lent : List ℕ) → length lent ≡ state_bytes → (given stood : List ℕ) (count : ℕ) → (state_from lent).n + length given ≤ max_bytes
-      → commit_call lent (ask_call lent (append given) stood).pending count ≡ edit_call lent (append given) count
   pub start_works :
       (s : Start) → AcceptedStart s → (lent : List ℕ) (count : ℕ) (ts : List Task)
       → WorkedInBytes (lent_tasks (lent_begun (start_call s lent count).state) ts) (worked_all (idle (started s).state) ts)

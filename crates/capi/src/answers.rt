@@ -3,13 +3,13 @@ ghost use Rattle.std.specs.Prelude.{◌≡◌};
 ghost use Rattle.cipher.specs.Aes;
 ghost use Rattle.field.specs.Field;
 ghost use Rattle.gcm.specs.Gcm;
-ghost use Rattle.file.specs.Clauses.{state_answer, ask_answer, commit_answer};
+ghost use Rattle.file.specs.Clauses.{state_answer};
 ghost use Rattle.journal.specs.Clauses as journal;
-ghost use Rattle.capi.specs.Calls.{kept, verdict_byte, kept_pending};
-ghost use Rattle.capi.specs.Clauses.{edit_result, ask_result};
+ghost use Rattle.capi.specs.Calls.{kept, verdict_byte};
+ghost use Rattle.capi.specs.Clauses.{edit_result};
 
-use super::packing::{PENDING_BYTES, STATE_BYTES, encode, encode_pending};
-use file::{Answer, Answered, Asked, CommitOutcome, Committed, Outcome, Verdict};
+use super::packing::{STATE_BYTES, encode};
+use file::{Answered, Outcome, Verdict};
 
 // The number of a cipher's answer.
 pub fn cipher_number(a: cipher::Answer) -> u64
@@ -92,36 +92,6 @@ pub fn keep(e: Answered, state: &mut [u8; STATE_BYTES], count: &mut u64) -> u64
             let st = e.state;
             encode(st, state);
             *count = products.number();
-            0
-        }
-    }
-}
-
-// What an ask answered, put where the caller wants it: where it was accepted, the pending edit is written; where it was refused, what stood there
-// stays.
-pub fn keep_pending(a: Asked, pending: &mut [u8; PENDING_BYTES]) -> u64
-    ensures { ask_result result pending.new ≡ kept_pending (ask_answer a) pending.old }
-{
-    let answer = a.answer;
-    if let Answer::Refused(cause) = answer {
-        return cause.number();
-    }
-    let p = a.pending;
-    encode_pending(p, pending);
-    0
-}
-
-// What a commit answered, put as `keep` puts what an edit answered.
-pub fn keep_committed(c: Committed, state: &mut [u8; STATE_BYTES], count: &mut u64) -> u64
-    ensures { edit_result result state.new count.new ≡ kept (commit_answer c) state.old count.old }
-{
-    let outcome = c.outcome;
-    match outcome {
-        CommitOutcome::Refused(cause) => cause.number(),
-        CommitOutcome::Done(products) => {
-            let after = c.state;
-            encode(after, state);
-            *count = products;
             0
         }
     }

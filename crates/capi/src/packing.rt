@@ -1,18 +1,15 @@
-// The state as 84 bytes and back, in document 01's order, and a pending edit as 72 (specs/Bytes).
+// The state as 84 bytes and back, in document 01's order (specs/Bytes).
 ghost use Rattle.std.specs.Prelude.{◌≡◌};
 ghost use Rattle.field.specs.Field.{bytes_of};
-ghost use Rattle.capi.specs.Bytes.{packed_state, state_from, packed_pending, pending_from};
+ghost use Rattle.capi.specs.Bytes.{packed_state, state_from};
 
 use cipher::Key;
 use field::Block;
 use field::packing::{number_at, store};
-use file::{Origin, Pending, State};
+use file::State;
 
 // How many bytes hold a state.
 pub const STATE_BYTES: usize = 84;
-
-// How many bytes hold a pending edit.
-pub const PENDING_BYTES: usize = 72;
 
 // How many bytes hold a block.
 pub const BLOCK_BYTES: usize = 16;
@@ -103,39 +100,4 @@ fn key_block(key: Key) -> Block
 {
     let bytes = key.bytes;
     Block::from_bytes(&bytes)
-}
-
-// The pending edit that the bytes hold.
-pub fn decode_pending(b: &[u8; PENDING_BYTES]) -> Pending
-    ensures { result ≡ pending_from b.now }
-{
-    let all: &[u8] = b;
-    let sum = Block::load(0, all, 0);
-    let length = number_at(0, all, 16, 8);
-    let count = number_at(0, all, 24, 8);
-    let key = Key::from_bytes(&all[32..48]);
-    let s = Block::load(0, all, 3);
-    let n = number_at(0, all, 64, 8);
-    Pending {
-        s: sum,
-        n: length,
-        count,
-        origin: Origin { key, s, n },
-    }
-}
-
-// The bytes of a pending edit, written over all that stood there.
-pub fn encode_pending(p: Pending, out: &mut [u8; PENDING_BYTES])
-    ensures { out.new ≡ packed_pending p }
-{
-    let s = p.s;
-    s.write(out, 0);
-    store(out, 16, 8, p.n);
-    store(out, 24, 8, p.count);
-    let origin = p.origin;
-    let key = origin.key;
-    key_block(key).write(out, 32);
-    let from = origin.s;
-    from.write(out, 48);
-    store(out, 64, 8, origin.n);
 }

@@ -1,7 +1,6 @@
 pub mod KeyRows
 pub mod Whole
 pub mod ManyBlocks
-pub mod KeyLaws
 pub mod AesLaws
 pub mod RoundLanes
 pub mod SixteenStates

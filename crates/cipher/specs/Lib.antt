@@ -2,6 +2,5 @@ pub mod Rounds
 pub mod Schedule
 pub mod Cipher
 pub mod Answers
-pub mod Keys
 pub mod Clauses
 pub mod Aes

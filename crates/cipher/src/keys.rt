@@ -1,8 +1,7 @@
 // Keys, their schedules, and AES by value for the layers above.
-ghost use Rattle.std.specs.Prelude.{◌≡◌, true, eqb, length};
+ghost use Rattle.std.specs.Prelude.{◌≡◌, true, length};
 ghost use Rattle.cipher.specs.Cipher.{rows_of, aes};
 ghost use Rattle.cipher.specs.Answers.{key_fits};
-ghost use Rattle.cipher.specs.Keys.{same_keys};
 
 use super::rounds::cipher;
 use super::schedule::fill;
@@ -33,21 +32,6 @@ impl Key {
         Key { bytes }
     }
 
-    // Serves the layers above: 0 where two keys are the same. Every byte is looked at, and no jump goes by one.
-    pub fn difference(self, other: Key) -> u64
-        ensures { eqb result 0 ≡ same_keys self other }
-    {
-        let mine = self.bytes;
-        let given = other.bytes;
-        let mut d: u8 = 0;
-        let mut i = 0;
-        while i < 16 {
-            d = d | (mine[i] ^ given[i]);
-            i += 1;
-        }
-        wide(d)
-    }
-
     // Serves the layers above: fills the rows that the caller holds with the key's schedule. Who encrypts many blocks does it once; handed over by
     // value to several callers, the rows would be copied by the C library's memcpy.
     pub fn fill_rows(self, rows: &mut [[u8; 16]])
@@ -75,13 +59,6 @@ fn expand(key: Key) -> [[u8; 16]; ROWS]
     let mut rows = [blank; ROWS];
     key.fill_rows(&mut rows);
     rows
-}
-
-// A byte as a number. Of a parameter it is known that it is a byte, where a loop would have to carry that.
-fn wide(x: u8) -> u64
-    ensures { result ≡ x }
-{
-    x as u64
 }
 
 // The bytes of a slice of sixteen.

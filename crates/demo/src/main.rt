@@ -1,17 +1,11 @@
 // One motion file's week: a start on a blank card, which reads FF (hexadecimal), four edits, a journal of two more that a service laptop brings, which
-// is forecast before it is run, and Tuesday's seal. On Wednesday a change of the format is asked for; the card write fails, so it isn't committed, and the
-// slip stays current. Asked for again and written, it is committed, once, and sealed. It is put back and sealed on Thursday, so that Tuesday's card has the
-// right bytes again on Friday; its slip is stale. After a restart the card is read once, and slips are checked. Each step prints the file's length, the
-// running sum and the count of products, or the forecast, or the slip, or the verdict, or a refusal's number. After a write that failed nothing more is
-// printed, and that is told on standard error.
-mod printing;
-
-use file::{SLIP_BYTES, State};
-use journal::{forecast, replay};
-use libc::STDERR_FILENO;
-use printing::{
-    check, print_ask, print_commit, print_forecast, print_replay, print_seal, print_step,
-};
+// is forecast before it is run, and Tuesday's seal. The format is changed and sealed on Wednesday, and put back and sealed on Thursday, so that
+// Tuesday's card has the right bytes again on Friday; its slip is stale. After a restart the card is read once, and slips are checked. Each step prints
+// the file's length, the running sum and the count of products, or the forecast, or the slip, or the verdict, or a refusal's number. After a write that
+// failed nothing more is printed, and that is told on standard error.
+use file::{Answer, Answered, Cause, Checked, Outcome, SLIP_BYTES, State, Verdict};
+use journal::{Forecasted, Replayed, forecast, replay};
+use libc::{STDERR_FILENO, STDOUT_FILENO};
 
 const ARM: u32 = 7;
 
@@ -54,7 +48,11 @@ fn week(told: &mut bool) {
 // The week from Wednesday on: the format is changed and put back, so that the bytes are Tuesday's again.
 fn from_wednesday(told: &mut bool, st: State, tuesday: &[u8; SLIP_BYTES]) {
     let mut slip = [0u8; SLIP_BYTES];
-    let st = change_the_format(told, st, tuesday);
+    let st = print_step(
+        told,
+        b"change the format",
+        st.change(56, b"gripper B", b"gripper C"),
+    );
     let st = print_seal(told, b"seal on Wednesday", st, &mut slip);
     let st = print_step(
         told,
@@ -77,31 +75,143 @@ fn from_wednesday(told: &mut bool, st: State, tuesday: &[u8; SLIP_BYTES]) {
     check(told, b"check with one bit flipped", st, &slip);
 }
 
-// The change that is asked for before the card is written. The first write fails, and what was asked for is dropped: the state has not moved. The second
-// does not, and what was asked for is committed; a second time it is refused.
-fn change_the_format(told: &mut bool, st: State, tuesday: &[u8; SLIP_BYTES]) -> State {
-    print_ask(
-        told,
-        b"ask to change the format",
-        st.ask_change(56, b"gripper B", b"gripper C"),
-    );
-    check(
-        told,
-        b"check Tuesday's slip after the write failed",
-        st,
-        tuesday,
-    );
-    let pending = print_ask(
-        told,
-        b"ask again",
-        st.ask_change(56, b"gripper B", b"gripper C"),
-    );
-    let st = print_commit(told, b"commit after the write", st.commit(pending));
-    print_commit(told, b"commit a second time", st.commit(pending))
-}
-
 // One read of the card, with the last used seal number.
 fn read(told: &mut bool, last: u64, card: &[u8; 65]) -> State {
     let key = b"a key for arm 7.";
     print_step(told, b"read the card", State::read(key, ARM, last, card))
+}
+
+// Checks a slip, and prints the verdict.
+fn check(told: &mut bool, name: &[u8], st: State, slip: &[u8; SLIP_BYTES]) {
+    let answer = st.check(slip);
+    say(told, name);
+    match answer {
+        Checked::Found(verdict) => print_verdict(told, verdict),
+        Checked::Refused(cause) => print_refusal(told, cause),
+    }
+    say(told, b"\n");
+}
+
+// Seals the file, prints the slip and hands on the state.
+fn print_seal(told: &mut bool, name: &[u8], st: State, slip: &mut [u8; SLIP_BYTES]) -> State {
+    let sealed = st.seal(slip);
+    let answer = sealed.answer;
+    say(told, name);
+    match answer {
+        Answer::Done => {
+            say(told, b": slip ");
+            print_bytes(told, slip);
+        }
+        Answer::Refused(cause) => print_refusal(told, cause),
+    }
+    say(told, b"\n");
+    let after = sealed.state;
+    after
+}
+
+fn print_bytes(told: &mut bool, s: &[u8]) {
+    let mut i = 0;
+    while i < s.len() {
+        print_byte(told, s[i]);
+        i += 1;
+    }
+}
+
+fn print_byte(told: &mut bool, b: u8) {
+    print_hex(told, b as u64, 2);
+}
+
+// Prints what a call answered, and hands on the state.
+fn print_step(told: &mut bool, name: &[u8], answer: Answered) -> State {
+    let st = answer.state;
+    let outcome = answer.outcome;
+    say(told, name);
+    match outcome {
+        Outcome::Done(count) => print_state(told, st, count.number()),
+        Outcome::Refused(cause) => print_refusal(told, cause),
+    }
+    say(told, b"\n");
+    st
+}
+
+// Prints a state's length and sum, and a count.
+fn print_state(told: &mut bool, st: State, count: u64) {
+    say(told, b": length ");
+    print_decimal(told, st.n);
+    say(told, b", sum ");
+    let s = st.s;
+    print_hex(told, s.hi, 16);
+    print_hex(told, s.lo, 16);
+    say(told, b", count ");
+    print_decimal(told, count);
+}
+
+// Prints the number of a refusal.
+fn print_refusal(told: &mut bool, cause: Cause) {
+    say(told, b": refused ");
+    print_decimal(told, cause.number());
+}
+
+// Prints a forecast.
+fn print_forecast(told: &mut bool, name: &[u8], f: Forecasted) {
+    say(told, name);
+    say(told, b": bound ");
+    print_decimal(told, f.bound);
+    say(told, b", greatest length ");
+    print_decimal(told, f.greatest);
+    let answer = f.answer;
+    print_stop(told, answer, f.offset);
+}
+
+// Prints what a replay answered, and hands on the state.
+fn print_replay(told: &mut bool, name: &[u8], r: Replayed) -> State {
+    let st = r.state;
+    say(told, name);
+    print_state(told, st, r.count);
+    let answer = r.answer;
+    print_stop(told, answer, r.offset);
+    st
+}
+
+// Prints where a replay stops, or a forecast.
+fn print_stop(told: &mut bool, answer: journal::Answer, offset: u64) {
+    match answer {
+        journal::Answer::Done => say(told, b", done at "),
+        journal::Answer::Refused(cause) => {
+            say(told, b", refused ");
+            print_decimal(told, cause.number());
+            say(told, b" at ");
+        }
+    }
+    print_decimal(told, offset);
+    say(told, b"\n");
+}
+
+// Prints a verdict.
+fn print_verdict(told: &mut bool, verdict: Verdict) {
+    match verdict {
+        Verdict::NotGenuine => say(told, b": not genuine"),
+        Verdict::Current => say(told, b": current"),
+        Verdict::Stale => say(told, b": stale"),
+        Verdict::Ahead => say(told, b": ahead"),
+    }
+}
+
+fn print_decimal(told: &mut bool, n: u64) {
+    let mut text = [0u8; 20];
+    let k = io::decimal(n, &mut text);
+    say(told, &text[..k]);
+}
+
+fn print_hex(told: &mut bool, n: u64, width: usize) {
+    let mut text = [0u8; 16];
+    let k = io::hex(n, width, &mut text);
+    say(told, &text[..k]);
+}
+
+// Writes a text, unless an earlier one could not be written.
+fn say(told: &mut bool, text: &[u8]) {
+    if *told {
+        *told = io::write_all(STDOUT_FILENO, text);
+    }
 }

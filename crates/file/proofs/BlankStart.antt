@@ -1,5 +1,5 @@
 -- An accepted start has the sum of n fill bytes, and its count is the formula's.
--- It rests on what start answers (`Calls`), on the invariant that it sets up (`Holds`) and on field's law of a blank file's sum.
+-- It rests on what start answers (`Calls`), on the invariant that it sets up (`Invariant`) and on field's law of a blank file's sum.
 use mathlib.Core.Path.{◌≡◌, refl, ap, ◌∙◌}
 use mathlib.Core.Logic.{◌⊎◌}
 use Rattle.field.specs.Field.{zero_block}
@@ -11,7 +11,7 @@ use Rattle.file.specs.Machine.{blank}
 use Rattle.file.specs.Runs.{begun, run, begun_from}
 use Rattle.file.specs.Demands.{BlankStart}
 use Rattle.file.proofs.Calls.{begun_start}
-use Rattle.file.proofs.Holds.{summed_start}
+use Rattle.file.proofs.Invariant.{summed_start}
 
 nothing : (s : Start) → (started s).refusal ≡ 0 → (s.n ≡ 0) ⊎ (s.fill ≡ 0) → ((started s).state.s ≡ zero_block) × ((started s).count ≡ 0)
 unfolding state_of

@@ -1,6 +1,6 @@
 -- What one call answers, by cases on its refusal: of the editor (`call-refused`, `call-accepted`), of the plain machine (`machine-refused`,
 -- `machine-accepted`), and of start and read. A new call costs one clause of each law of the editor.
--- It rests on the definitions of specs/States, Slips, Pendings, Calls and Machine alone, and on what an accepted start or read passed (`StateReturns`).
+-- It rests on the definitions of specs/States, Slips, Calls and Machine alone, and on what an accepted start or read passed (`StateReturns`).
 use mathlib.Core.Path.{◌≡◌, refl, sym, ap, ◌∙◌}
 use mathlib.Core.Bool.{true, not}
 use mathlib.Core.Logic.{◌≢◌, ◌⊎◌, inl, inr}
@@ -16,27 +16,25 @@ use Rattle.field.specs.Field.{sum, blank_sum, blank_count, max_bytes}
 use Rattle.gcm.specs.Gcm.{hash_key}
 use Rattle.file.specs.declared.states.State.{State}
 use Rattle.file.specs.Edits.{Edit, kind_of, given, replacing, geometry_at, edit_refusal, count_of}
-use Rattle.file.specs.States.{StateAnswer, accepted_with, refused_with, zero_state, state_of, sum_after, reckoned_by, reckoned, put, put_with, edited}
+use Rattle.file.specs.States.{StateAnswer, accepted_with, refused_with, zero_state, state_of, sum_after, asked_by, asked, put, put_with, edited}
 use Rattle.file.specs.States.{Start, Reading, begin_refusal, begun_with, started, read_file}
 use Rattle.file.specs.Slips.{slip_number, seal_refusal, numbered, sealed_next, sealed, checked}
-use Rattle.file.specs.declared.pendings.Pending.{Pending}
-use Rattle.file.specs.Pendings.{origin_of, zero_pending, put_off, asked, pending_by, commit_refusal, committed}
-use Rattle.file.specs.Calls.{CallOf, edit, seal, check, ask, commit, call_refusal, lent_slip, CallAnswer, call_answer}
-use Rattle.file.specs.Machine.{Ask, Machine, accepted_by, refused_by, machine_refusal, machine_answer}
+use Rattle.file.specs.Calls.{Call, edit, seal, check, call_refusal, lent_slip, CallAnswer, call_answer}
+use Rattle.file.specs.Machine.{Machine, accepted_by, refused_by, machine_refusal, machine_answer}
 use Rattle.file.proofs.StateReturns.{begins}
 
--- ---- an edit, a seal, an ask and a commit
+-- ---- an edit and a seal
 
 module _ (st : State) (e : Edit) where
   edit-refused : edit_refusal st.n e ≢ 0 → edited st e ≡ refused_with st (edit_refusal st.n e)
-  unfolding edited put_with reckoned reckoned_by edit_refusal
+  unfolding edited put_with asked asked_by edit_refusal
   edit-refused z = simp (ne_eqb _ _ z)
 
-  -- the sum and the length reckoned are put
+  -- the sum and the length asked for are put
   pub edit-accepted : edit_refusal st.n e ≡ 0
       → let g = geometry_at st.n e in
-      edited st e ≡ accepted_with (put st (sum_after st.h st.i st.s (kind_of e) g (given e) (replacing e)) g.n) (count_of g)
-  unfolding edited put_with reckoned reckoned_by edit_refusal
+      edited st e ≡ accepted_with (put st (sum_after st (kind_of e) g (given e) (replacing e)) g.n) (count_of g)
+  unfolding edited put_with asked asked_by edit_refusal
   edit-accepted z = simp (eq-eqb _ _ z)
 
 module _ (st : State) (out : List ℕ) where
@@ -49,42 +47,21 @@ module _ (st : State) (out : List ℕ) where
   unfolding sealed
   seal_next z = simp (eq-eqb _ _ z)
 
-module _ (st : State) (e : Edit) where
-  pub ask_refused : edit_refusal st.n e ≢ 0 → asked st e ≡ record { refusal = edit_refusal st.n e; pending = zero_pending }
-  unfolding asked put_off reckoned reckoned_by edit_refusal
-  ask_refused z = simp (ne_eqb _ _ z)
-
-  -- document 01's table from the state's own key, sum and length
-  pub ask-accepted : edit_refusal st.n e ≡ 0 → asked st e ≡ record { refusal = 0; pending = pending_by st.h st.i (origin_of st) e }
-  unfolding asked put_off reckoned reckoned_by edit_refusal pending_by origin_of
-  ask-accepted z = simp (eq-eqb _ _ z)
-
-module _ (st : State) (p : Pending) where
-  commit_refused : commit_refusal (origin_of st) p ≢ 0 → committed st p ≡ refused_with st (commit_refusal (origin_of st) p)
-  unfolding committed
-  commit_refused z = simp (ne_eqb _ _ z)
-
-  pub commit-accepted : commit_refusal (origin_of st) p ≡ 0 → committed st p ≡ accepted_with (put st p.s p.n) p.count
-  unfolding committed
-  commit-accepted z = simp (eq-eqb _ _ z)
-
 -- ---- any call of the editor
 
 -- what it answers where it refuses
-abbrev pub refused_call : State → CallOf Pending → CallAnswer
-refused_call st c =
-    record { state = st; refusal = call_refusal (origin_of st) st.last c; count = 0; issued = []; pending = []; slip = lent_slip c }
+abbrev pub refused_call : State → Call → CallAnswer
+refused_call st c = record { state = st; refusal = call_refusal st.n st.last c; count = 0; issued = []; slip = lent_slip c }
 
 -- and where it accepts
-abbrev pub accepted_call : State → CallOf Pending → CallAnswer
+abbrev pub accepted_call : State → Call → CallAnswer
 accepted_call st (edit e) =
     let g = geometry_at st.n e in
     record {
-      state = put st (sum_after st.h st.i st.s (kind_of e) g (given e) (replacing e)) g.n;
+      state = put st (sum_after st (kind_of e) g (given e) (replacing e)) g.n;
       refusal = 0;
       count = count_of g;
       issued = [];
-      pending = [];
       slip = [];
     }
 accepted_call st (seal out) =
@@ -93,38 +70,29 @@ accepted_call st (seal out) =
       refusal = 0;
       count = 0;
       issued = slip_number (sealed_next st).slip ∷ [];
-      pending = [];
       slip = (sealed_next st).slip;
     }
-accepted_call st (check slip) = record { state = st; refusal = 0; count = 0; issued = []; pending = []; slip = slip }
-accepted_call st (ask e) =
-    record { state = st; refusal = 0; count = 0; issued = []; pending = pending_by st.h st.i (origin_of st) e ∷ []; slip = [] }
-accepted_call st (commit p) =
-    record { state = put st p.s p.n; refusal = 0; count = p.count; issued = []; pending = []; slip = [] }
+accepted_call st (check slip) = record { state = st; refusal = 0; count = 0; issued = []; slip = slip }
 
-pub call-refused : (st : State) (c : CallOf Pending) → call_refusal (origin_of st) st.last c ≢ 0 → call_answer st c ≡ refused_call st c
-unfolding call_answer call_refusal lent_slip checked origin_of
+pub call-refused : (st : State) (c : Call) → call_refusal st.n st.last c ≢ 0 → call_answer st c ≡ refused_call st c
+unfolding call_answer call_refusal lent_slip checked
 call-refused st (edit e) z = rw (edit-refused st e z)
 call-refused st (seal out) z = rw (seal-refused st out z) (simp (ne_eqb _ _ z))
 call-refused st (check slip) z = refl
-call-refused st (ask e) z = rw (ask_refused st e z) (simp (ne_eqb _ _ z))
-call-refused st (commit p) z = rw (commit_refused st p z)
 
-pub call-accepted : (st : State) (c : CallOf Pending) → call_refusal (origin_of st) st.last c ≡ 0 → call_answer st c ≡ accepted_call st c
-unfolding call_answer call_refusal checked sealed_next origin_of
+pub call-accepted : (st : State) (c : Call) → call_refusal st.n st.last c ≡ 0 → call_answer st c ≡ accepted_call st c
+unfolding call_answer call_refusal checked sealed_next
 call-accepted st (edit e) z = rw (edit-accepted st e z)
 call-accepted st (seal out) z = rw (seal_next st out z)
 call-accepted st (check slip) z = rw z
-call-accepted st (ask e) z = rw (ask-accepted st e z)
-call-accepted st (commit p) z = rw (commit-accepted st p z)
 
 -- ---- any call of the machine
 
-pub machine-refused : (m : Machine) (c : CallOf Ask) → machine_refusal m c ≢ 0 → machine_answer m c ≡ refused_by m (machine_refusal m c)
+pub machine-refused : (m : Machine) (c : Call) → machine_refusal m c ≢ 0 → machine_answer m c ≡ refused_by m (machine_refusal m c)
 unfolding machine_answer
 machine-refused m c z = simp (ne_eqb _ _ z)
 
-pub machine-accepted : (m : Machine) (c : CallOf Ask) → machine_refusal m c ≡ 0 → machine_answer m c ≡ accepted_by m c
+pub machine-accepted : (m : Machine) (c : Call) → machine_refusal m c ≡ 0 → machine_answer m c ≡ accepted_by m c
 unfolding machine_answer
 machine-accepted m c z = simp (eq-eqb _ _ z)
 

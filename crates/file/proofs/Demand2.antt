@@ -14,16 +14,14 @@ use Rattle.gcm.proofs.TagLaws.{tag-gmac}
 use Rattle.file.specs.declared.states.State.{State}
 use Rattle.file.specs.declared.sealing.Verdict.{Verdict}
 use Rattle.file.specs.Slips.{slip_arm, slip_number, nonce_of, state_tag, SealAnswer, seal_refusal, sealed, check_refusal, genuine, Finds, Condition}
-use Rattle.file.specs.Pendings.{origin_of}
-use Rattle.file.specs.Calls.{seal, map_call, call_refusal}
+use Rattle.file.specs.Calls.{seal, call_refusal}
 use Rattle.file.specs.Machine.{Machine, machine_refusal}
 use Rattle.file.specs.Runs.{Run}
 use Rattle.file.specs.Demands.{Opens, SlipOf, Sealing, Demand2}
 use Rattle.file.proofs.Calls.{seal_next}
 use Rattle.file.proofs.SealLaws.{Checked, next_number, next_checked, check-opens, opens-check, genuine-checked, checked-genuine}
 use Rattle.file.proofs.Verdicts.{condition_iff, split}
-use Rattle.file.proofs.Holds.{Holds, Summed}
-use Rattle.file.proofs.Invariant.{same_refusal}
+use Rattle.file.proofs.Invariant.{Holds, Summed, same_refusal}
 use Rattle.file.proofs.Agreement.{Agrees, agrees_start, agrees-read}
 
 module _ (key : List ℕ) (arm : ℕ) (st : State) (m : Machine) (h : Holds key arm st m) (s : Summed key st m) where
@@ -75,7 +73,7 @@ module _ (key : List ℕ) (arm : ℕ) (st : State) (m : Machine) (h : Holds key 
   -- and an accepted seal writes one, with the next number
   module _ (w : arm < 2 ^ 32) (out : List ℕ) (a : machine_refusal m (seal out) ≡ 0) where
     accepts : seal_refusal st.n st.last out ≡ 0
-    unfolding call_refusal map_call origin_of
+    unfolding call_refusal
     accepts = same_refusal key arm st m h (seal out) ∙ a
 
     small-arm : st.arm < 2 ^ 32
@@ -100,7 +98,7 @@ pub sealing : (key : List ℕ) (arm last : ℕ) (r : Run) → arm < 2 ^ 32 → A
 sealing key arm last r w g t =
     let st = r.state in
     let m = r.machine in
-    let h = g.runs.holds in
+    let h = g.holds in
     let s = g.summed t in
     record {
       seals = seals-fit key arm st m h s w;

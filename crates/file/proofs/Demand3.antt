@@ -13,7 +13,7 @@ use Rattle.file.specs.States.{key_of, state_of, Reading}
 use Rattle.file.specs.Machine.{Machine}
 use Rattle.file.specs.Demands.{ReaderAgrees, Demand3}
 use Rattle.file.proofs.Calls.{begun_start, begun-read, read-accepts}
-use Rattle.file.proofs.Holds.{Holds, Summed}
+use Rattle.file.proofs.Invariant.{Holds, Summed}
 use Rattle.file.proofs.Numbers.{rise-numbers, rise-count, rise-distinct}
 use Rattle.file.proofs.Agreement.{agrees_start}
 
@@ -43,14 +43,12 @@ demand_3 s a calls =
     let g = agrees_start s a calls in
     record {
       refusals = g.refusals;
-      lengths = g.runs.holds.same_n;
-      lasts = g.runs.holds.same_last;
-      sums = g.runs.holds.same_s;
-      pendings = g.runs.same_pendings;
+      lengths = g.holds.same_n;
+      lasts = g.holds.same_last;
       total = g.total;
       within = g.within;
       numbers = rise-numbers s.last _ _ g.numbers;
       issues = rise-count s.last _ _ g.numbers;
       distinct = rise-distinct s.last _ _ g.numbers;
-      reader = λ t arm last. reads s.key s.arm _ _ (begun_start s a.accepted).fits g.runs.holds (g.summed t) arm last;
+      reader = λ t arm last. reads s.key s.arm _ _ (begun_start s a.accepted).fits g.holds (g.summed t) arm last;
     }

@@ -13,7 +13,6 @@ use Rattle.field.proofs.Steps.{leading-width}
 use Rattle.file.specs.declared.states.State.{State}
 use Rattle.file.specs.Edits.{Edit, kind_of, place_of, given, stands_on, length_after, Geometry, geometry_at, edit_refusal, count_of, count_limit}
 use Rattle.file.specs.States.{StateAnswer, put, edited}
-use Rattle.file.specs.Pendings.{origin_of}
 use Rattle.file.specs.Calls.{edit, call_refusal, call_answer}
 use Rattle.file.proofs.Calls.{edit-accepted}
 use Rattle.file.proofs.Demand1.{demand_1, edited_kept}
@@ -23,7 +22,7 @@ use Rattle.file.proofs.ShapeLaws.{touched-blocks}
 -- ---- its refusal, the length afterwards and its count, by its geometry
 
 pub edited-refusal : (st : State) (e : Edit) → (edited st e).refusal ≡ edit_refusal st.n e
-unfolding call_answer call_refusal origin_of
+unfolding call_answer call_refusal
 edited-refusal st e = demand_1.causes st (edit e)
 
 -- of no block
@@ -70,8 +69,5 @@ count_by n e (inr a) l = rw (none-counted (geometry_at n e) (refused-untouched n
 count_by n e (inl a) (inl z) = rw (none-counted (geometry_at n e) (none-untouched n e a z)) zero-le
 count_by n e (inl a) (inr z) = le_trans (count-within n e) (limit-few n e a z)
 
-pub count-few : (n : ℕ) (e : Edit) → count_of (geometry_at n e) ≤ length (given e) + 128
-count-few n e = count_by n e (eq-zero-or-pos (edit_refusal n e)) (eq-zero-or-pos (length (given e)))
-
 pub edited-few : (st : State) (e : Edit) → (edited st e).count ≤ length (given e) + 128
-edited-few st e = rw (edited-count st e) (count-few st.n e)
+edited-few st e = rw (edited-count st e) (count_by st.n e (eq-zero-or-pos (edit_refusal st.n e)) (eq-zero-or-pos (length (given e))))

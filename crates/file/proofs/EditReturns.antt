@@ -24,13 +24,13 @@ use Rattle.file.specs.declared.geometry.Measured.{Measured}
 use Rattle.file.specs.declared.geometry.Measured.TheVariants as measured
 use Rattle.file.specs.declared.edits.Factors.{Factors}
 use Rattle.file.specs.declared.edits.Moved.{Moved}
-use Rattle.file.specs.declared.edits.Reckoned.{Reckoned}
-use Rattle.file.specs.declared.edits.Reckoned.TheVariants as reckon
+use Rattle.file.specs.declared.edits.Asked.{Asked}
+use Rattle.file.specs.declared.edits.Asked.TheVariants as ask
 use Rattle.file.specs.declared.states.State.{State}
 use Rattle.file.specs.Edits.{Edit, Geometry, geometry, kind_refusal, stands_on, length_after, touched, exponent, count_of}
 use Rattle.file.specs.Table.{placed_sum, new_sum}
-use Rattle.file.specs.States.{StateAnswer, accepted_with, refused_with, Reckoning, sum_after, reckoned_by, reckoned, put, put_with, edited}
-use Rattle.file.specs.Clauses.{cause_number, geometry_of, reckoning_of}
+use Rattle.file.specs.States.{StateAnswer, accepted_with, refused_with, AskAnswer, sum_after, asked_by, asked, put, put_with, edited}
+use Rattle.file.specs.Clauses.{cause_number, geometry_of, asked_of}
 use Rattle.file.proofs.Accepted.{accepted_as}
 use Rattle.file.proofs.ShapeLaws.{reach, touched-blocks, touched-some, cause_pos, geometry-refusal, geometry-fits, geometry-nothing}
 
@@ -76,17 +76,17 @@ pub moved-count : (q k : ℕ) {none : ℕ} {w t : Counted} {y z : Block} → non
 moved-count q k en ew et =
     omega (arith, en, ap (λ (c : Counted). c.count.raised) et, ap (λ (c : Counted). c.count.raised) ew)
 
--- ---- an edit reckoned
+-- ---- an edit asked for
 
 -- an answer is that of an edit of a kind, at p, with given bytes a and of a change new bytes b
-abbrev Reckons : (st : State) (kind : Kind) (p : ℕ) (a b : List ℕ) → Reckoning → Type 0
-Reckons st kind p a b x = x ≡ reckoned_by st kind (geometry kind p (length a) (length b) st.n) a b
+abbrev Asks : (st : State) (kind : Kind) (p : ℕ) (a b : List ℕ) → AskAnswer → Type 0
+Asks st kind p a b x = x ≡ asked_by st kind (geometry kind p (length a) (length b) st.n) a b
 
 module _ (st : State) (kind : Kind) (p : ℕ) (a b : List ℕ) {m : Measured}
     (e : geometry_of st.n m ≡ geometry kind p (length a) (length b) st.n) where
-  pub reckon_refused : {c : Cause} → m ≡ measured.Refused c → Reckons st kind p a b (reckoning_of st (reckon.Refused c))
-  unfolding reckoned_by sum_after count_of
-  reckon_refused g = rw (sym e ∙ ap (geometry_of st.n) g)
+  pub ask_refused : {c : Cause} → m ≡ measured.Refused c → Asks st kind p a b (asked_of st (ask.Refused c))
+  unfolding asked_by sum_after count_of
+  ask_refused g = rw (sym e ∙ ap (geometry_of st.n) g)
 
   module _ {x : Shape} (g : m ≡ measured.Fits x) where
     pub fits-refusal : kind_refusal kind p (length a) (length b) st.n ≡ 0
@@ -94,10 +94,10 @@ module _ (st : State) (kind : Kind) (p : ℕ) (a b : List ℕ) {m : Measured}
         sym (geometry-refusal kind p (length a) (length b) st.n) ∙ sym (ap (λ (y : Geometry). y.refusal) e)
         ∙ ap (λ (y : Measured). (geometry_of st.n y).refusal) g
 
-    pub reckon_nothing : {none : Count} → length a ≡ 0 → none.raised ≡ 0
-        → Reckons st kind p a b (reckoning_of st (reckon.Fits (record { s = st.s; n = st.n; count = none })))
-    unfolding reckoned_by sum_after count_of
-    reckon_nothing z c = rw (sym (geometry-nothing kind p (length a) (length b) st.n fits-refusal z), c)
+    pub ask-nothing : {none : Count} → length a ≡ 0 → none.raised ≡ 0
+        → Asks st kind p a b (asked_of st (ask.Fits (record { s = st.s; n = st.n; count = none })))
+    unfolding asked_by sum_after count_of
+    ask-nothing z c = rw (sym (geometry-nothing kind p (length a) (length b) st.n fits-refusal z), c)
 
     module _ (z : 0 < length a) where
       fits-shape :
@@ -126,28 +126,28 @@ module _ (st : State) (kind : Kind) (p : ℕ) (a b : List ℕ) {m : Measured}
           longer (inl k) = omega (arith, accepted_as Change p (length a) (length b) st.n k fits-refusal)
           longer (inr k) = rw k (omega arith)
 
-      pub reckon_done : {v : Moved}
+      pub ask_done : {v : Moved}
           → v.s ≡ new_sum kind st.h st.i st.s (sum st.h (replicate x.lead 0 ++ xor_bytes a b)) x.k
-          → v.n ≡ x.n → v.count.raised ≡ x.q + steps x.k + 1 → Reckons st kind p a b (reckoning_of st (reckon.Fits v))
-      unfolding reckoned_by sum_after placed_sum count_of
-      reckon_done es en ec =
+          → v.n ≡ x.n → v.count.raised ≡ x.q + steps x.k + 1 → Asks st kind p a b (asked_of st (ask.Fits v))
+      unfolding asked_by sum_after placed_sum count_of
+      ask_done es en ec =
           let some = ne_eqb x.q 0 (λ (y : x.q ≡ 0). touched-some _ _ z (sym (ap (λ (w : Geometry). w.q) fits-shape) ∙ y)) in
           rw (sym e ∙ ap (geometry_of st.n) g) (simp some (rw (es, en, ec)))
 
--- ---- what was reckoned, put
+-- ---- what was asked for, put
 
-module _ (st : State) {x : Reckoned} where
-  pub put_refused : {c : Cause} → x ≡ reckon.Refused c → refused_with st (cause_number c) ≡ put_with st (reckoning_of st x)
+module _ (st : State) {x : Asked} where
+  pub put_refused : {c : Cause} → x ≡ ask.Refused c → refused_with st (cause_number c) ≡ put_with st (asked_of st x)
   unfolding put_with
   put_refused {c} e = rw e (simp (ne_eqb _ _ (λ (z : cause_number c ≡ 0). omega (arith, cause_pos c))))
 
   -- r is the state with what was moved put into it
-  pub put_done : {v : Moved} {r : State} → x ≡ reckon.Fits v → r ≡ put st v.s v.n
-      → accepted_with r v.count.raised ≡ put_with st (reckoning_of st x)
+  pub put_done : {v : Moved} {r : State} → x ≡ ask.Fits v → r ≡ put st v.s v.n
+      → accepted_with r v.count.raised ≡ put_with st (asked_of st x)
   unfolding put_with
   put_done {v} e er = rw e (ap (λ (y : State). accepted_with y v.count.raised) er)
 
 -- and so an edit of a state
-pub edited-by : (st : State) (e : Edit) {x : StateAnswer} {y : Reckoning} → y ≡ reckoned st e → x ≡ put_with st y → x ≡ edited st e
+pub edited-by : (st : State) (e : Edit) {x : StateAnswer} {y : AskAnswer} → y ≡ asked st e → x ≡ put_with st y → x ≡ edited st e
 unfolding edited
 edited-by st e ey ex = ex ∙ ap (put_with st) ey

@@ -18,9 +18,9 @@ use Rattle.file.specs.declared.sealing.Verdict.TheVariants.{Current}
 use Rattle.file.specs.declared.states.State.{State}
 use Rattle.file.specs.States.{state_of, Start, started}
 use Rattle.file.specs.Slips.{slip_bytes, slip_number, sealed, Finds, FindsGenuine, Condition}
-use Rattle.file.specs.Calls.{Call, seal, map_call, is_call}
+use Rattle.file.specs.Calls.{Call, seal}
 use Rattle.file.specs.Machine.{Machine, blank, lent, with_last, NamesHeld, TrueCall}
-use Rattle.file.specs.Runs.{Run, begun, answered, further, run, begun_from, from_read, Written, written_in}
+use Rattle.file.specs.Runs.{Run, begun, further, run, begun_from, from_read, Written, written_in}
 use Rattle.file.specs.Demands.{AcceptedStart, Opens, SlipOf, Sealing, TwoRuns, up_from, Demand3}
 use Rattle.file.specs.Met.{appends, append_counts, Grown, Sealable, Numbered, Met}
 use Rattle.file.proofs.Calls.{begun-read, start_accepts, read-accepts}
@@ -75,7 +75,7 @@ module _ (key : List ℕ) (arm : ℕ) (b : Run) (true-so-far : b.truth) (speaks 
     (parts : List (List ℕ)) (short : length b.machine.bytes + length (flatten parts) ≤ max_bytes) (left : b.machine.last + 1 < 2 ^ 64)
     (out : List ℕ) (room : length out ≡ slip_bytes) where
   sealable : Sealable key arm (b.machine.bytes ++ flatten parts) out (run b (appends parts)) (run b (appends parts ++ (seal out ∷ [])))
-  unfolding run further answered is_call map_call TrueCall with_last Condition
+  unfolding run further TrueCall with_last Condition
   sealable =
       let r = run b (appends parts) in
       let g = longer b parts short in
@@ -111,7 +111,7 @@ module _ (s : Start) (a : AcceptedStart s) (k : ℕ) (left : s.last + k < 2 ^ 64
   numbered : Numbered s k (written_in (begun_from s []) calls) (begun_from s calls)
   unfolding Demand3 begun_from run begun blank
   numbered =
-      let g = risen (begun (started s).state (blank s)) out k (agrees_start s a []).runs.holds.short room left in
+      let g = risen (begun (started s).state (blank s)) out k (agrees_start s a []).holds.short room left in
       let d = demand_3 s a calls in
       let ages = slip-ages.start s a calls in
       let many : length (begun_from s calls).numbers ≡ k = omega (arith, d.issues, g.last) in

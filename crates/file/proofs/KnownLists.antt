@@ -1,6 +1,6 @@
 -- Lists of appends and of seals, run by the plain machine: what they leave, however long they are.
 -- It rests on what the machine answers to one call (`Calls`), on the order of an edit's causes (`ShapeLaws`) and on the length after an edit
--- (`Holds`).
+-- (`Invariant`).
 use mathlib.Core.Path.{◌≡◌, refl, sym, ap, ap₂, ◌∙◌}
 use mathlib.Core.Bool.{Bool, true, false, cond}
 use mathlib.Core.List.{List, [], ◌∷◌, ◌++◌, flatten, append-nil, append_assoc}
@@ -18,14 +18,14 @@ use Rattle.field.specs.Field.{max_bytes}
 use Rattle.file.specs.declared.geometry.Kind.TheVariants.{Append}
 use Rattle.file.specs.Edits.{append, kind_of, place_of, given, replacing, kind_causes, kind_refusal, geometry_at, edit_refusal}
 use Rattle.file.specs.Slips.{slip_bytes, seal_refusal, sealed}
-use Rattle.file.specs.Calls.{CallOf, Call, edit, seal, map_call, is_call, call_refusal}
-use Rattle.file.specs.Machine.{Ask, Machine, with_bytes, with_last, held_by, bytes_after, MachineAnswer, edited_by, accepted_by, machine_refusal, machine_answer}
+use Rattle.file.specs.Calls.{Call, edit, seal, call_refusal}
+use Rattle.file.specs.Machine.{Machine, with_bytes, with_last, bytes_after, MachineAnswer, accepted_by, machine_refusal, machine_answer}
 use Rattle.file.specs.Machine.{NamesHeld, TrueCall}
-use Rattle.file.specs.Runs.{Run, answered, further, run, Written, written_by, written_in}
+use Rattle.file.specs.Runs.{Run, further, run, Written, written_by, written_in}
 use Rattle.file.specs.Met.{appends, append_counts}
 use Rattle.file.proofs.ShapeLaws.{geometry-refusal}
 use Rattle.file.proofs.Calls.{machine-accepted}
-use Rattle.file.proofs.Holds.{length_kept}
+use Rattle.file.proofs.Invariant.{length_kept}
 
 -- a run of two lists one after the other
 pub run-append : (r : Run) (cs ds : List Call) → run r (cs ++ ds) ≡ run (run r cs) ds
@@ -68,7 +68,7 @@ pub record Longer (r : Run) (parts : List (List ℕ)) (after : Run) : Type 0 whe
 
 pub longer : (r : Run) (parts : List (List ℕ)) → length r.machine.bytes + length (flatten parts) ≤ max_bytes
     → Longer r parts (run r (appends parts))
-unfolding run further answered is_call map_call flatten append_counts accepted_by edited_by with_bytes bytes_after held_by machine_refusal call_refusal
+unfolding run further flatten append_counts accepted_by with_bytes bytes_after machine_refusal call_refusal
 longer r [] l =
     record {
       bytes = sym (append-nil r.machine.bytes);
@@ -79,12 +79,12 @@ longer r [] l =
     }
 longer r (part ∷ parts) l =
     let m = r.machine in
-    let c : CallOf Ask = edit (append part) in
+    let c : Call = edit (append part) in
     let both = length-append part (flatten parts) in
     let one = machine-accepted m c (append-refusal (length m.bytes) part (omega (arith, l, both))) in
     let bytes : (machine_answer m c).machine.bytes ≡ m.bytes ++ part = ap (λ (b : MachineAnswer). b.machine.bytes) one in
     let size : length (machine_answer m c).machine.bytes ≡ length m.bytes + length part = ap length bytes ∙ length-append m.bytes part in
-    let rest = longer (further r (edit (append part))) parts (omega (arith, l, both, size)) in
+    let rest = longer (further r c) parts (omega (arith, l, both, size)) in
     record {
       bytes = rest.bytes ∙ ap (λ (f : List ℕ). f ++ flatten parts) bytes ∙ append_assoc m.bytes part (flatten parts);
       last = rest.last ∙ ap (λ (b : MachineAnswer). b.machine.last) one;
@@ -102,7 +102,7 @@ longer r (part ∷ parts) l =
 -- a seal is accepted of a file within the limits, with room for a slip and a number left
 pub seal-accepts : (m : Machine) (out : List ℕ) → length m.bytes ≤ max_bytes → length out ≡ slip_bytes → m.last + 1 < 2 ^ 64
     → machine_refusal m (seal out) ≡ 0
-unfolding machine_refusal map_call held_by call_refusal seal_refusal
+unfolding machine_refusal call_refusal seal_refusal
 seal-accepts m out l e r =
     let left : m.last ≡ 2 ^ 64 - 1 → ⊥ = λ z. omega arith in
     sym (first_later _ _ _ (le-ltb _ _ l) (first_later _ _ _ (agree e) (first_later _ _ _ (ne_eqb _ _ left) first_none)))
@@ -134,7 +134,7 @@ pub record Risen (r : Run) (out : List ℕ) (k : ℕ) (after : Run) : Type 0 whe
 
 pub risen : (r : Run) (out : List ℕ) (k : ℕ) → length r.machine.bytes ≤ max_bytes → length out ≡ slip_bytes → r.machine.last + k < 2 ^ 64
     → Risen r out k (run r (replicate k (seal out)))
-unfolding run further answered is_call map_call written_in accepted_by with_last TrueCall
+unfolding run further written_in accepted_by with_last TrueCall
 risen r out zero l e room =
     record {
       bytes = refl;

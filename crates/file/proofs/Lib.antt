@@ -5,8 +5,6 @@ pub mod ShapeLaws
 pub mod EditLaws
 pub mod EditReturns
 pub mod StateReturns
-pub mod PendingLaws
-pub mod PendingReturns
 pub mod SlipLaws
 pub mod SealReturns
 pub mod Calls
@@ -15,8 +13,6 @@ pub mod EditAnswers
 pub mod SealLaws
 pub mod Verdicts
 pub mod Numbers
-pub mod Holds
-pub mod AskLaws
 pub mod Invariant
 pub mod BlankStart
 pub mod Agreement
@@ -25,10 +21,6 @@ pub mod SlipAges
 pub mod Demand3
 pub mod KnownLists
 pub mod HypothesesMet
-pub mod Mirrors
-pub mod AskedRuns
-pub mod AskCommit
-pub mod AskCommitMet
 pub mod Parts
 pub mod Strength
 pub mod BenchCases

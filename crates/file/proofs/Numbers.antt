@@ -7,8 +7,8 @@ use Prim.Native.Nat.{ℕ, zero, suc, ◌+◌, ◌<◌}
 use native.Mathlib.Omega.{arith}
 use native.Mathlib.Nat.{eq-zero-or-pos, zero-add, suc-add}
 use lib.ListN.{length, get_or}
-use Rattle.file.specs.Calls.{CallOf, edit, seal, check, ask, commit}
-use Rattle.file.specs.Machine.{Ask, Machine, with_bytes, with_last, edited_by, accepted_by, refused_by, machine_refusal, machine_answer}
+use Rattle.file.specs.Calls.{Call, edit, seal, check}
+use Rattle.file.specs.Machine.{Machine, with_bytes, with_last, accepted_by, refused_by, machine_refusal, machine_answer}
 use Rattle.file.specs.Demands.{up_from}
 use Rattle.file.proofs.Calls.{machine-refused, machine-accepted}
 
@@ -70,22 +70,20 @@ rise-distinct a b x p i j l r e = omega (arith, rise_at a b x p i (omega arith),
 
 -- ---- the seal numbers of one call
 
-rise-accepted : (m : Machine) (c : CallOf Ask) → Rise m.last (accepted_by m c).issued (accepted_by m c).machine.last
-unfolding accepted_by edited_by with_bytes with_last
+rise-accepted : (m : Machine) (c : Call) → Rise m.last (accepted_by m c).issued (accepted_by m c).machine.last
+unfolding accepted_by with_bytes with_last
 rise-accepted m (edit e) = rise-none m.last
 rise-accepted m (seal out) = rise_one m.last
 rise-accepted m (check slip) = rise-none m.last
-rise-accepted m (ask e) = rise-none m.last
-rise-accepted m (commit a) = rise-none m.last
 
 rise-refused : (m : Machine) (r : ℕ) → Rise m.last (refused_by m r).issued (refused_by m r).machine.last
 unfolding refused_by
 rise-refused m r = rise-none m.last
 
-rise_by : (m : Machine) (c : CallOf Ask) → (machine_refusal m c ≡ 0) ⊎ (0 < machine_refusal m c)
+rise_by : (m : Machine) (c : Call) → (machine_refusal m c ≡ 0) ⊎ (0 < machine_refusal m c)
     → Rise m.last (machine_answer m c).issued (machine_answer m c).machine.last
 rise_by m c (inl z) = rw (machine-accepted m c z) (rise-accepted m c)
 rise_by m c (inr z) = rw (machine-refused m c (λ y. omega arith)) (rise-refused m (machine_refusal m c))
 
-pub rise-call : (m : Machine) (c : CallOf Ask) → Rise m.last (machine_answer m c).issued (machine_answer m c).machine.last
+pub rise-call : (m : Machine) (c : Call) → Rise m.last (machine_answer m c).issued (machine_answer m c).machine.last
 rise-call m c = rise_by m c (eq-zero-or-pos (machine_refusal m c))

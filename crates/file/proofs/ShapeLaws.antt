@@ -15,7 +15,7 @@ use Rattle.field.specs.Field.{blocks, max_bytes}
 use Rattle.field.proofs.BlockCounts.{blocks-value}
 use Rattle.file.specs.declared.causes.Cause.{Cause}
 use Rattle.file.specs.declared.causes.Cause.TheVariants.{KeyLength, TooLong, OutOfFile, UnequalPair, BrokenBlock}
-use Rattle.file.specs.declared.causes.Cause.TheVariants.{NumbersUsed, SlipLength, SlipVersion, OtherOrigin}
+use Rattle.file.specs.declared.causes.Cause.TheVariants.{NumbersUsed, SlipLength, SlipVersion}
 use Rattle.file.specs.declared.geometry.Kind.{Kind}
 use Rattle.file.specs.declared.geometry.Kind.TheVariants.{Change, Append, Prepend, DropFront, CutTail}
 use Rattle.file.specs.declared.geometry.Shape.{Shape}
@@ -112,7 +112,6 @@ cause_pos BrokenBlock = omega arith
 cause_pos NumbersUsed = omega arith
 cause_pos SlipLength = omega arith
 cause_pos SlipVersion = omega arith
-cause_pos OtherOrigin = omega arith
 
 -- a choice of two geometries has the refusal x, where the choice is whether x is 0
 refusal_is : (x : ℕ) (t : Bool) (a b : Geometry) → eqb x 0 ≡ t → a.refusal ≡ 0 → b.refusal ≡ x → (cond t a b).refusal ≡ x

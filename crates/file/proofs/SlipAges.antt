@@ -3,7 +3,7 @@
 -- It rests on demand 2 of every run on the way (`Demand2`), on check's verdicts at a state (`Verdicts`) and on the row that seal numbers stand
 -- in (`Numbers`).
 use mathlib.Core.Path.{◌≡◌, refl, sym, ap, subst, ◌∙◌}
-use mathlib.Core.Bool.{Bool, true, false, cond, false≢true}
+use mathlib.Core.Bool.{Bool, true, false, cond}
 use mathlib.Core.Logic.{⊎_elim}
 use mathlib.Core.List.{List, [], ◌∷◌, ◌++◌, map, map-append, append-nil, append_assoc}
 use mathlib.Core.List.Memᴰ
@@ -16,13 +16,13 @@ use lib.Seq.{get_or-append_seam}
 use borrow.Author.Tests.{eqb-true}
 use Rattle.file.specs.declared.sealing.Verdict.TheVariants.{Current, Stale, Ahead}
 use Rattle.file.specs.Slips.{slip_number, sealed, Condition}
-use Rattle.file.specs.Calls.{Call, edit, seal, check, ask, commit, map_call, with_pending, is_call, call_answer}
+use Rattle.file.specs.Calls.{Call, edit, seal, check, call_answer}
 use Rattle.file.specs.Machine.{machine_refusal}
-use Rattle.file.specs.Runs.{Run, begun, answered, further, run, begun_from, from_read, Written, written_by, written_in}
+use Rattle.file.specs.Runs.{Run, begun, further, run, begun_from, from_read, Written, written_by, written_in}
 use Rattle.file.specs.Demands.{SlipOf, Sealing, Ages, SlipAges}
 use Rattle.file.proofs.Invariant.{same_refusal}
 use Rattle.file.proofs.Numbers.{Rise, rise_at, rise-count}
-use Rattle.file.proofs.Agreement.{further_by, Agrees, agrees-run, agrees_start, agrees-read}
+use Rattle.file.proofs.Agreement.{Agrees, agrees-run, agrees_start, agrees-read}
 use Rattle.file.proofs.Demand1.{demand_1}
 use Rattle.file.proofs.Demand2.{sealing}
 use Rattle.file.proofs.Verdicts.{split}
@@ -37,39 +37,20 @@ one-or-none true w = refl
 one-or-none false w = refl
 
 -- a call issues the number on the slip that it writes
-issued_by : (r : Run) (c : Call) → (call_answer r.state (with_pending r.pendings c)).issued ≡ map number_on (written_by r c)
-unfolding call_answer written_by map_call
+issued_by : (r : Run) (c : Call) → (call_answer r.state c).issued ≡ map number_on (written_by r c)
+unfolding call_answer written_by
 issued_by r (edit e) = refl
 issued_by r (seal out) = one-or-none (eqb (sealed r.state out).refusal 0) _
 issued_by r (check slip) = refl
-issued_by r (ask e) = refl
-issued_by r (commit i) = refl
-
--- and what both runs pass over writes none
-passed_none : (r : Run) (c : Call) → is_call (length r.asks) c ≡ false → [] ≡ written_by r c
-unfolding is_call written_by
-passed_none r (edit e) l = refl
-passed_none r (seal out) l = absurd (false≢true (sym l))
-passed_none r (check slip) l = refl
-passed_none r (ask e) l = refl
-passed_none r (commit i) l = refl
-
-issued-further : (r : Run) (c : Call) → (further r c).numbers ≡ r.numbers ++ map number_on (written_by r c)
-unfolding answered
-issued-further r c =
-    further_by (λ (x : Run). x.numbers ≡ r.numbers ++ map number_on (written_by r c)) r c
-    (λ l. ap (λ (x : List ℕ). r.numbers ++ x) (issued_by r c))
-    (λ l. sym (append-nil r.numbers) ∙ ap (λ (w : List Written). r.numbers ++ map number_on w) (passed_none r c l))
 
 issued_in : (r : Run) (calls : List Call) → (run r calls).numbers ≡ r.numbers ++ map number_on (written_in r calls)
-unfolding run written_in
+unfolding run further written_in
 issued_in r [] = sym (append-nil r.numbers)
 issued_in r (c ∷ cs) =
     let rest = written_in (further r c) cs in
     issued_in (further r c) cs
-    ∙ ap (λ (x : List ℕ). x ++ map number_on rest) (issued-further r c)
     ∙ append_assoc r.numbers _ _
-    ∙ ap (λ (x : List ℕ). r.numbers ++ x) (sym (map-append number_on (written_by r c) rest))
+    ∙ ap (λ (x : List ℕ). r.numbers ++ x) (ap (λ (x : List ℕ). x ++ map number_on rest) (issued_by r c) ∙ sym (map-append number_on (written_by r c) rest))
 
 -- of slips whose numbers stand in a row, those after one are as many as its number is behind the last used
 behind : (a b : ℕ) (slips before after : List Written) (w : Written) → Rise a (map number_on slips) b → slips ≡ before ++ (w ∷ after)
@@ -84,23 +65,18 @@ behind a b slips before after w p e =
 
 -- ---- the bytes that were sealed
 
--- calls were true before the list's last one
-truth-further : (r : Run) (c : Call) → (further r c).truth → r.truth
-unfolding answered
-truth-further r c = further_by (λ (x : Run). x.truth → r.truth) r c (λ l t. t.0) (λ l t. t)
-
--- and so before its end
+-- calls were true before the list's end
 truth_before : (r : Run) (calls : List Call) → (run r calls).truth → r.truth
-unfolding run
+unfolding run further
 truth_before r [] t = t
-truth_before r (c ∷ cs) t = truth-further r c (truth_before (further r c) cs t)
+truth_before r (c ∷ cs) t = (truth_before (further r c) cs t).0
 
 -- the editor seals where the machine does
 pub seal-refusal : {key : List ℕ} {arm last : ℕ} (r : Run) → Agrees key arm last r → (out : List ℕ)
     → (sealed r.state out).refusal ≡ machine_refusal r.machine (seal out)
-unfolding call_answer map_call
+unfolding call_answer
 seal-refusal {key} {arm} r g out =
-    demand_1.causes r.state (seal out) ∙ same_refusal key arm r.state r.machine g.runs.holds (seal out)
+    demand_1.causes r.state (seal out) ∙ same_refusal key arm r.state r.machine g.holds (seal out)
 
 module _ (key : List ℕ) (arm last : ℕ) (small : arm < 2 ^ 32) where
   call_fits : (r : Run) (c : Call) → Agrees key arm last r → r.truth → (w : Written) → Memᴰ w (written_by r c)
@@ -108,8 +84,6 @@ module _ (key : List ℕ) (arm last : ℕ) (small : arm < 2 ^ 32) where
   unfolding written_by
   call_fits r (edit e) g t w m = absurd (Memᴰ.not-nil m)
   call_fits r (check slip) g t w m = absurd (Memᴰ.not-nil m)
-  call_fits r (ask e) g t w m = absurd (Memᴰ.not-nil m)
-  call_fits r (commit i) g t w m = absurd (Memᴰ.not-nil m)
   call_fits r (seal out) g t w m = by (eqb (sealed r.state out).refusal 0) refl m
     where
       by : (b : Bool) → eqb (sealed r.state out).refusal 0 ≡ b
@@ -156,7 +130,7 @@ module _ (key : List ℕ) (arm last : ℕ) (small : arm < 2 ^ 32) where
     unfolding Condition
     ages =
         let r = run b calls in
-        let lasts = after_list.runs.holds.same_last in
+        let lasts = after_list.holds.same_last in
         let at = split.verdicts r.state in
         record {
           numbers = all;

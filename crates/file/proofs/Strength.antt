@@ -67,7 +67,7 @@ sealing : (r : Reading) → AcceptedRead r → (out : List ℕ) → r.last + 1 <
 unfolding from_read run begun lent
 sealing r k out l e =
     let s = demand_2.read r k [] tt in
-    let z = seal-accepts (lent r) out (agrees-read r k []).runs.holds.short e l in
+    let z = seal-accepts (lent r) out (agrees-read r k []).holds.short e l in
     (s.seals out z, s.numbers out z)
 
 pub few-slips : FewSlips

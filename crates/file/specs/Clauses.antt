@@ -2,7 +2,7 @@
 use Rattle.std.specs.Prelude.{List, ℕ}
 use Rattle.field.specs.Field.{value}
 use Rattle.file.specs.declared.causes.Cause.{Cause}
-use Rattle.file.specs.declared.causes.Cause.TheVariants.{KeyLength, TooLong, OutOfFile, UnequalPair, BrokenBlock, NumbersUsed, SlipLength, SlipVersion, OtherOrigin}
+use Rattle.file.specs.declared.causes.Cause.TheVariants.{KeyLength, TooLong, OutOfFile, UnequalPair, BrokenBlock, NumbersUsed, SlipLength, SlipVersion}
 use Rattle.file.specs.declared.causes.Answer.{Answer}
 use Rattle.file.specs.declared.causes.Answer.TheVariants as answer
 use Rattle.file.specs.declared.states.State.{State}
@@ -11,12 +11,8 @@ use Rattle.file.specs.declared.states.Outcome.TheVariants as outcome
 use Rattle.file.specs.declared.states.Answered.{Answered}
 use Rattle.file.specs.declared.geometry.Measured.{Measured}
 use Rattle.file.specs.declared.geometry.Measured.TheVariants as measured
-use Rattle.file.specs.declared.edits.Reckoned.{Reckoned}
-use Rattle.file.specs.declared.edits.Reckoned.TheVariants as reckoned
-use Rattle.file.specs.declared.pendings.Asked.{Asked}
-use Rattle.file.specs.declared.pendings.CommitOutcome.{CommitOutcome}
-use Rattle.file.specs.declared.pendings.CommitOutcome.TheVariants as commitOutcome
-use Rattle.file.specs.declared.pendings.Committed.{Committed}
+use Rattle.file.specs.declared.edits.Asked.{Asked}
+use Rattle.file.specs.declared.edits.Asked.TheVariants as asked
 use Rattle.file.specs.declared.sealing.Sealed.{Sealed}
 use Rattle.file.specs.declared.sealing.Verdict.TheVariants.{NotGenuine}
 use Rattle.file.specs.declared.sealing.Checked.{Checked}
@@ -24,11 +20,10 @@ use Rattle.file.specs.declared.sealing.Checked.TheVariants as checked
 use Rattle.file.specs.declared.slips.Opened.{Opened}
 use Rattle.file.specs.declared.slips.Opened.TheVariants as opened
 use Rattle.file.specs.Edits.{Geometry, untouched}
-use Rattle.file.specs.States.{StateAnswer, Reckoning}
-use Rattle.file.specs.Pendings.{AskAnswer}
+use Rattle.file.specs.States.{StateAnswer, AskAnswer}
 use Rattle.file.specs.Slips.{SlipFields, unopened, SealAnswer, CheckAnswer}
 
--- the number of a cause (document 01, "Causes and their numbers"; document 02, Q-8)
+-- the number of a cause (document 01, "Causes and their numbers")
 abbrev pub cause_number : Cause → ℕ
 cause_number KeyLength = 1
 cause_number TooLong = 2
@@ -38,7 +33,6 @@ cause_number BrokenBlock = 5
 cause_number NumbersUsed = 6
 cause_number SlipLength = 7
 cause_number SlipVersion = 8
-cause_number OtherOrigin = 16
 
 -- the refusal of an answer (document 01, "Causes and their numbers"), 0 where the work was done
 abbrev pub answer_refusal : Answer → ℕ
@@ -64,28 +58,10 @@ abbrev pub geometry_of : ℕ → Measured → Geometry
 geometry_of n (measured.Refused c) = untouched (cause_number c) n
 geometry_of n (measured.Fits s) = record { refusal = 0; lead = s.lead; q = s.q; k = s.k; n = s.n }
 
--- what reckoning an edit of a state answered
-abbrev pub reckoning_of : State → Reckoned → Reckoning
-reckoning_of st (reckoned.Refused c) = record { refusal = cause_number c; s = st.s; n = st.n; count = 0 }
-reckoning_of st (reckoned.Fits m) = record { refusal = 0; s = m.s; n = m.n; count = m.count.raised }
-
--- what asking for an edit answered
-abbrev pub ask_answer : Asked → AskAnswer
-ask_answer r = record { refusal = answer_refusal r.answer; pending = r.pending }
-
--- the refusal of a commit, 0 where it was accepted
-abbrev pub commit_outcome_refusal : CommitOutcome → ℕ
-commit_outcome_refusal (commitOutcome.Done count) = 0
-commit_outcome_refusal (commitOutcome.Refused c) = cause_number c
-
--- the count that a commit reports, 0 where it was refused
-abbrev pub commit_outcome_count : CommitOutcome → ℕ
-commit_outcome_count (commitOutcome.Done count) = count
-commit_outcome_count (commitOutcome.Refused c) = 0
-
--- what committing a pending edit answered
-abbrev pub commit_answer : Committed → StateAnswer
-commit_answer r = record { state = r.state; refusal = commit_outcome_refusal r.outcome; count = commit_outcome_count r.outcome }
+-- what asking for an edit of a state answered
+abbrev pub asked_of : State → Asked → AskAnswer
+asked_of st (asked.Refused c) = record { refusal = cause_number c; s = st.s; n = st.n; count = 0 }
+asked_of st (asked.Fits m) = record { refusal = 0; s = m.s; n = m.n; count = m.count.raised }
 
 -- what opening a slip answered
 abbrev pub opened_of : Opened → SlipFields

@@ -9,25 +9,19 @@ use Rattle.file.specs.declared.sealing.Verdict.{Verdict}
 use Rattle.file.specs.declared.sealing.Verdict.TheVariants.{Current, Stale, Ahead}
 use Rattle.file.specs.Slips.{slip_bytes, slip_version, slip_length, slip_arm, slip_number, slip_tag, nonce_of, sealed}
 use Rattle.file.specs.Slips.{Finds, FindsGenuine, Condition}
-use Rattle.file.specs.declared.pendings.Pending.{Pending}
-use Rattle.file.specs.Edits.{Edit}
-use Rattle.file.specs.Pendings.{origin_of, asked, zero_pending}
-use Rattle.file.specs.Calls.{CallOf, Call, seal, call_refusal, lent_slip, call_answer}
-use Rattle.file.specs.Machine.{Ask, machine_refusal}
+use Rattle.file.specs.Calls.{Call, seal, call_refusal, lent_slip, call_answer}
+use Rattle.file.specs.Machine.{machine_refusal}
 use Rattle.file.specs.Runs.{Run, begun_from, from_read, Written, written_in}
 
 -- ---- demand 1
 
 -- every call answers the first of its listed causes or 0; a refused call on a state leaves it and a lent slip as they were, and a refused
--- start or read gives the state of all zeros; a refused call counts nothing and returns no pending edit, by value zeros (document 01, "Causes and their numbers" and
--- "The file and its five edits"; document 02, Q-8)
+-- start or read gives the state of all zeros; a refused call counts nothing (document 01, "Causes and their numbers" and "The file and its five
+-- edits")
 pub record Demand1 : Type 0 where
-  pub causes : (st : State) (c : CallOf Pending) → (call_answer st c).refusal ≡ call_refusal (origin_of st) st.last c
-  pub kept : (st : State) (c : CallOf Pending) → (call_answer st c).refusal ≢ 0 → ((call_answer st c).state ≡ st) × ((call_answer st c).slip ≡ lent_slip c)
-  pub uncounted :
-      (st : State) (c : CallOf Pending) → (call_answer st c).refusal ≢ 0
-      → ((call_answer st c).count ≡ 0) × ((call_answer st c).issued ≡ []) × ((call_answer st c).pending ≡ [])
-  pub ask_zeros : (st : State) (e : Edit) → (asked st e).refusal ≢ 0 → (asked st e).pending ≡ zero_pending
+  pub causes : (st : State) (c : Call) → (call_answer st c).refusal ≡ call_refusal st.n st.last c
+  pub kept : (st : State) (c : Call) → (call_answer st c).refusal ≢ 0 → ((call_answer st c).state ≡ st) × ((call_answer st c).slip ≡ lent_slip c)
+  pub uncounted : (st : State) (c : Call) → (call_answer st c).refusal ≢ 0 → ((call_answer st c).count ≡ 0) × ((call_answer st c).issued ≡ [])
   pub start_causes : (s : Start) → (started s).refusal ≡ begin_refusal s.key s.n
   pub start_zeros : (s : Start) → (started s).refusal ≢ 0 → ((started s).state ≡ zero_state) × ((started s).count ≡ 0)
   pub read_causes : (r : Reading) → (read_file r).refusal ≡ begin_refusal r.key (length r.file)
@@ -140,9 +134,6 @@ pub record TwoRuns (s : Start) (r : Run) : Type 0 where
   -- lengths and last used numbers agree
   pub lengths : r.state.n ≡ length r.machine.bytes
   pub lasts : r.state.last ≡ r.machine.last
-  -- the sum is the machine's, and the pending edits that the asks returned are the machine's: document 01's table from the calls alone (document 02, Q-8)
-  pub sums : r.state.s ≡ r.machine.sum
-  pub pendings : r.pendings ≡ map (λ (a : Ask). a.pending) r.asks
   -- the reported total is the machine's sum of q + seek(k) + 1, and no edit reports more than q + 2b
   pub total : r.total ≡ r.machine_total
   pub within : r.within

@@ -2,7 +2,6 @@
 pub mod Edits
 pub mod Table
 pub mod States
-pub mod Pendings
 pub mod Slips
 pub mod Calls
 pub mod Machine
@@ -10,7 +9,6 @@ pub mod Runs
 pub mod Demands
 pub mod Strength
 pub mod Met
-pub mod AskCommit
 pub mod Parts
 pub mod BenchCases
 pub mod Clauses

@@ -1,20 +1,16 @@
--- A list of calls run by the editor and by the plain machine, in one fold (document 01, "The file and its five edits"; document 02, Q-8).
-use Rattle.std.specs.Prelude.{cond, List, [], ◌∷◌, ◌++◌, ℕ, ◌+◌, ◌≤◌, eqb, length}
+-- A list of calls run by the editor and by the plain machine, in one fold (document 01, "The file and its five edits").
+use Rattle.std.specs.Prelude.{cond, List, [], ◌∷◌, ◌++◌, ℕ, ◌+◌, ◌≤◌, eqb}
 use Rattle.file.specs.declared.states.State.{State}
-use Rattle.file.specs.declared.pendings.Pending.{Pending}
 use Rattle.file.specs.States.{Start, Reading, started, read_file}
 use Rattle.file.specs.Slips.{sealed}
-use Rattle.file.specs.Calls.{Call, edit, seal, check, ask, commit, with_pending, is_call, call_answer}
-use Rattle.file.specs.Machine.{Machine, blank, lent, Ask, with_ask, machine_answer, TrueCall}
+use Rattle.file.specs.Calls.{Call, edit, seal, check, call_answer}
+use Rattle.file.specs.Machine.{Machine, blank, lent, machine_answer, TrueCall}
 
--- a run (document 01, "The file and its five edits"): the editor's state and the machine, beside them the pending edits that the editor's accepted
--- asks returned and the asks that the machine accepted (document 02, Q-8), what each of them refuses and counts, the seal numbers that the editor issued,
--- and the statements that every call was true as it arrived and that no edit reported more than q + 2b
+-- a run (document 01, "The file and its five edits"): the editor's state and the machine, what each of them refuses and counts, the seal
+-- numbers that the editor issued, and the statements that every call was true as it arrived and that no edit reported more than q + 2b
 pub record Run : Type 1 where
   pub state : State
-  pub pendings : List Pending
   pub machine : Machine
-  pub asks : List Ask
   pub refusals : List ℕ
   pub machine_refusals : List ℕ
   pub total : ℕ
@@ -28,9 +24,7 @@ unfoldable pub begun : State → Machine → Run
 begun st m =
     record {
       state = st;
-      pendings = [];
       machine = m;
-      asks = [];
       refusals = [];
       machine_refusals = [];
       total = 0;
@@ -40,28 +34,22 @@ begun st m =
       within = Unit {0};
     }
 
--- a run with one call more, which both answer (document 01, "The file and its five edits")
-unfoldable pub answered : Run → Call → Run
-answered r c =
-    let a = call_answer r.state (with_pending r.pendings c) in
-    let b = machine_answer r.machine (with_ask r.asks c) in
+-- a run with one call more (document 01, "The file and its five edits")
+unfoldable pub further : Run → Call → Run
+further r c =
+    let a = call_answer r.state c in
+    let b = machine_answer r.machine c in
     record {
       state = a.state;
-      pendings = r.pendings ++ a.pending;
       machine = b.machine;
-      asks = r.asks ++ b.asked;
       refusals = r.refusals ++ (a.refusal ∷ []);
       machine_refusals = r.machine_refusals ++ (b.refusal ∷ []);
       total = r.total + a.count;
       machine_total = r.machine_total + b.count;
       numbers = r.numbers ++ a.issued;
-      truth = r.truth × TrueCall r.machine (with_ask r.asks c);
+      truth = r.truth × TrueCall r.machine c;
       within = r.within × (a.count ≤ b.most);
     }
-
--- a run with one call more; both pass over a commit that names no accepted ask before it, since it is none (document 02, Q-8)
-unfoldable pub further : Run → Call → Run
-further r c = cond (is_call (length r.asks) c) (answered r c) r
 
 -- a run with the calls of a whole list more (document 01, "The file and its five edits")
 unfoldable pub run : Run → List Call → Run
@@ -90,8 +78,6 @@ written_by r (seal out) =
     let a = sealed r.state out in
     cond (eqb a.refusal 0) (record { slip = a.slip; bytes = r.machine.bytes } ∷ []) []
 written_by r (check slip) = []
-written_by r (ask e) = []
-written_by r (commit i) = []
 
 -- those that the calls of a whole list write, in their order (document 02, Q-5)
 unfoldable pub written_in : Run → List Call → List Written

@@ -88,37 +88,38 @@ read_file r =
     begun_with (begin_refusal r.key (length r.file))
     (state_of r.key (sum (hash_key r.key) r.file) (length r.file) r.arm r.last) 0
 
--- ---- the edits: reckoned, then put
+-- ---- the edits: asked, then put
 
--- what an edit gives, before it is put (document 01, "The file and its five edits"): the refusal or 0, and the new sum, length and count; one that is refused
+-- what an edit asks for (document 01, "The file and its five edits"): the refusal or 0, and the new sum, length and count; one that is refused
 -- or of no bytes leaves sum and length and counts 0
-pub record Reckoning : Type 0 where
+pub record AskAnswer : Type 0 where
   pub refusal : ℕ
   pub s : Block
   pub n : ℕ
   pub count : ℕ
 
--- the new sum (document 01, "The file and its five edits"): the table over H, I and S, where a block is touched
-unfoldable pub sum_after : (h i s : Block) → Kind → Geometry → (a b : List ℕ) → Block
-sum_after h i s kind g a b = cond (eqb g.q 0) s (new_sum kind h i s (placed_sum h g.lead a b) g.k)
+-- the new sum (document 01, "The file and its five edits"): the table over the state's fields, where a block is touched
+unfoldable pub sum_after : State → Kind → Geometry → (a b : List ℕ) → Block
+sum_after st kind g a b =
+    cond (eqb g.q 0) st.s (new_sum kind st.h st.i st.s (placed_sum st.h g.lead a b) g.k)
 
--- an edit of a kind reckoned, with given bytes a and of a change new bytes b, by what it does to lengths (document 01, "The file and its
+-- an edit of a kind asked for, with given bytes a and of a change new bytes b, by what it does to lengths (document 01, "The file and its
 -- five edits")
-unfoldable pub reckoned_by : State → Kind → Geometry → (a b : List ℕ) → Reckoning
-reckoned_by st kind g a b = record { refusal = g.refusal; s = sum_after st.h st.i st.s kind g a b; n = g.n; count = count_of g }
+unfoldable pub asked_by : State → Kind → Geometry → (a b : List ℕ) → AskAnswer
+asked_by st kind g a b = record { refusal = g.refusal; s = sum_after st kind g a b; n = g.n; count = count_of g }
 
--- an edit reckoned (document 01, "The file and its five edits")
-unfoldable pub reckoned : State → Edit → Reckoning
-reckoned st e = reckoned_by st (kind_of e) (geometry_at st.n e) (given e) (replacing e)
+-- an edit asked for (document 01, "The file and its five edits")
+unfoldable pub asked : State → Edit → AskAnswer
+asked st e = asked_by st (kind_of e) (geometry_at st.n e) (given e) (replacing e)
 
 -- a state with a new sum and length (document 01, "The file and its five edits")
 unfoldable pub put : State → Block → ℕ → State
 put st s n = record { key = st.key; h = st.h; i = st.i; s = s; n = n; arm = st.arm; last = st.last }
 
--- what was reckoned, put into the state where it is not refused (document 01, "The file and its five edits")
-unfoldable pub put_with : State → Reckoning → StateAnswer
+-- what was asked for, put into the state where it is not refused (document 01, "The file and its five edits")
+unfoldable pub put_with : State → AskAnswer → StateAnswer
 put_with st a = cond (eqb a.refusal 0) (accepted_with (put st a.s a.n) a.count) (refused_with st a.refusal)
 
--- an edit, for all five kinds: reckoned, then put (document 01, "The file and its five edits")
+-- an edit, for all five kinds: asked, then put (document 01, "The file and its five edits")
 unfoldable pub edited : State → Edit → StateAnswer
-edited st e = put_with st (reckoned st e)
+edited st e = put_with st (asked st e)

@@ -20,8 +20,6 @@ pub enum Cause {
     SlipLength,
     // The slip's version is not 1.
     SlipVersion,
-    // The state's key, sum or length is not the one that the pending edit started from.
-    OtherOrigin,
 }
 
 impl Cause {
@@ -38,7 +36,6 @@ impl Cause {
             Cause::NumbersUsed => 6,
             Cause::SlipLength => 7,
             Cause::SlipVersion => 8,
-            Cause::OtherOrigin => 16,
         }
     }
 }

@@ -1,4 +1,4 @@
-// The five edits. What an edit does to lengths is measured first; the new sum, length and count are reckoned, from the bytes and that shape;
+// The five edits. What an edit does to lengths is measured first; the new sum, length and count are asked for, from the bytes and that shape;
 // and then they are put into the state.
 ghost use Rattle.std.specs.Prelude.{◌≡◌, ◌⊎◌, [], ◌++◌, ℕ, ◌+◌, ◌≤◌, ◌^◌, length, replicate};
 ghost use Rattle.field.specs.Field.{◌⊕◌, ◌•◌, power, steps, blocks, sum, xor_bytes};
@@ -6,8 +6,8 @@ ghost use Rattle.file.specs.Edits;
 ghost use Rattle.file.specs.Edits.{geometry};
 ghost use Rattle.file.specs.Table.{new_sum};
 ghost use Rattle.file.specs.States;
-ghost use Rattle.file.specs.States.{reckoned_by, edited};
-ghost use Rattle.file.specs.Clauses.{state_answer, reckoning_of};
+ghost use Rattle.file.specs.States.{asked_by, edited};
+ghost use Rattle.file.specs.Clauses.{state_answer, asked_of};
 
 use super::causes::Cause;
 use super::geometry::{Kind, Measured, Shape, measure};
@@ -26,7 +26,7 @@ pub struct Moved {
 }
 
 #[derive(Drop)]
-pub enum Reckoned {
+pub enum Asked {
     Refused(Cause),
     Fits(Moved),
 }
@@ -45,14 +45,14 @@ impl State {
     pub fn change(self, p: u64, old: &[u8], new: &[u8]) -> Answered
         ensures { state_answer result ≡ edited self (Edits.change p old.now new.now) }
     {
-        put(self, reckon(self, Kind::Change, p, old, new))
+        put(self, ask(self, Kind::Change, p, old, new))
     }
 
     // The given bytes go after the last. Refused with 2 where the state's length passes 2^61 - 1, or would.
     pub fn append(self, given: &[u8]) -> Answered
         ensures { state_answer result ≡ edited self (Edits.append given.now) }
     {
-        put(self, reckon(self, Kind::Append, 0, given, &given[..0]))
+        put(self, ask(self, Kind::Append, 0, given, &given[..0]))
     }
 
     // The given bytes go before the first. Refused with 2 where the state's length passes 2^61 - 1, with 5 where the given length is no
@@ -60,7 +60,7 @@ impl State {
     pub fn prepend(self, given: &[u8]) -> Answered
         ensures { state_answer result ≡ edited self (Edits.prepend given.now) }
     {
-        put(self, reckon(self, Kind::Prepend, 0, given, &given[..0]))
+        put(self, ask(self, Kind::Prepend, 0, given, &given[..0]))
     }
 
     // The given bytes leave the front. Refused with 2 where the state's length passes 2^61 - 1, with 5 where the given length is no
@@ -68,7 +68,7 @@ impl State {
     pub fn drop_front(self, given: &[u8]) -> Answered
         ensures { state_answer result ≡ edited self (Edits.drop_front given.now) }
     {
-        put(self, reckon(self, Kind::DropFront, 0, given, &given[..0]))
+        put(self, ask(self, Kind::DropFront, 0, given, &given[..0]))
     }
 
     // The given bytes leave the end. Refused with 2 where the state's length passes 2^61 - 1, with 3 where the given length passes the
@@ -76,31 +76,30 @@ impl State {
     pub fn cut_tail(self, given: &[u8]) -> Answered
         ensures { state_answer result ≡ edited self (Edits.cut_tail given.now) }
     {
-        put(self, reckon(self, Kind::CutTail, 0, given, &given[..0]))
+        put(self, ask(self, Kind::CutTail, 0, given, &given[..0]))
     }
 }
 
-// An edit of a kind reckoned, at p, with given bytes a and of a change new bytes b; no other kind has b. One of no bytes moves nothing. It serves the
-// crate.
-pub fn reckon(st: State, kind: Kind, p: u64, a: &[u8], b: &[u8]) -> Reckoned
+// An edit of a kind asked for, at p, with given bytes a and of a change new bytes b; no other kind has b. One of no bytes moves nothing.
+fn ask(st: State, kind: Kind, p: u64, a: &[u8], b: &[u8]) -> Asked
     requires { (kind ≡ Kind.Change) ⊎ (b.now ≡ []) }
-    ensures { reckoning_of st result ≡ reckoned_by st kind (geometry kind p (length a.now) (length b.now) st.n)
+    ensures { asked_of st result ≡ asked_by st kind (geometry kind p (length a.now) (length b.now) st.n)
         a.now b.now }
 {
     let l = a.len() as u64;
     let measured = measure(kind, p, l, b.len() as u64, st.n);
     match measured {
-        Measured::Refused(cause) => Reckoned::Refused(cause),
+        Measured::Refused(cause) => Asked::Refused(cause),
         Measured::Fits(shape) => {
             if l == 0 {
                 let s = st.s;
-                return Reckoned::Fits(Moved {
+                return Asked::Fits(Moved {
                     s,
                     n: st.n,
                     count: Count::none(),
                 });
             }
-            Reckoned::Fits(moved_by(st, kind, shape, a, b))
+            Asked::Fits(moved_by(st, kind, shape, a, b))
         }
     }
 }
@@ -170,16 +169,16 @@ fn arranged(st: State, kind: Kind, w: Block) -> Factors
     }
 }
 
-// What was reckoned, put into the state; where it was refused, the state as it was.
-fn put(st: State, reckoned: Reckoned) -> Answered
-    ensures { state_answer result ≡ States.put_with st (reckoning_of st reckoned) }
+// What was asked for, put into the state; where it was refused, the state as it was.
+fn put(st: State, asked: Asked) -> Answered
+    ensures { state_answer result ≡ States.put_with st (asked_of st asked) }
 {
-    match reckoned {
-        Reckoned::Refused(cause) => Answered {
+    match asked {
+        Asked::Refused(cause) => Answered {
             state: st,
             outcome: Outcome::Refused(cause),
         },
-        Reckoned::Fits(m) => {
+        Asked::Fits(m) => {
             let s = m.s;
             let count = m.count;
             Answered {
@@ -190,8 +189,8 @@ fn put(st: State, reckoned: Reckoned) -> Answered
     }
 }
 
-// The state with a new sum and length. It serves the crate.
-pub fn moved_to(st: State, s: Block, n: u64) -> State
+// The state with a new sum and length.
+fn moved_to(st: State, s: Block, n: u64) -> State
     ensures { result ≡ States.put st s n }
 {
     let key = st.key;

@@ -1,22 +1,37 @@
 -- Two tags compared: by their words, whose differences, joined and folded, are 0 exactly where the blocks are one number; and by their bytes, which
--- are the same exactly where the blocks are. They rest on the laws of tests (refusals, `Tests`), on lib.Bits and on the field's laws of blocks and bytes.
-use mathlib.Core.Path.{◌≡◌, refl, sym, ap, ◌∙◌}
-use mathlib.Core.Bool.{Bool}
-use mathlib.Core.List.{List}
+-- are the same exactly where the blocks are. They rest on lib.Bits and on the field's laws of blocks and bytes.
+use mathlib.Core.Path.{◌≡◌, refl, sym, ap, ap₂, ◌∙◌}
+use mathlib.Core.Bool.{Bool, true, false, ◌&&◌, false≢true}
+use mathlib.Core.Logic.{◌⊎◌, inl, inr}
+use mathlib.Core.List.{List, [], ◌∷◌}
 use Prim.Native.Nat.{ℕ, ◌/◌, ◌%◌, ◌<◌}
 use native.Mathlib.Omega.{arith}
-use lib.Bits.{bit_or, bit_xor, xor_self}
+use lib.Bits.{bit_or, bit_xor, or_add_and, xor_add_and, and_le_l, and_le_r, xor_self}
 use lib.Dec.{eqb}
 use lib.ListN.{length, get_or}
-use borrow.Author.Tests.{eq-eqb, eqb-true}
+use borrow.Author.Tests.{eq-eqb, ne_eqb, eqb-true, eqb-false}
 use Rattle.field.specs.declared.blocks.Block.{Block}
 use Rattle.field.specs.Field.{value, block, Small, block_at, bytes_of}
 use Rattle.field.proofs.Values.{block-value}
 use Rattle.field.proofs.BlockAt.{small-block_at, block_at-bytes_of, bytes_of_whole}
-use Rattle.refusals.specs.Tests.{equal}
-use Rattle.refusals.proofs.Tests.{flags, eqb-iff, equal_true, equal-same, xor-none, or-none}
+use Rattle.gcm.specs.Authenticated.{equal}
 
 -- ---- by their words
+
+-- two tests that hold at the same time have one flag
+eqb-iff : (p q r s : ℕ) → (p ≡ q → r ≡ s) → (r ≡ s → p ≡ q) → eqb p q ≡ eqb r s
+eqb-iff p q r s f g = flag (eqb p q) refl
+  where
+    flag : (t : Bool) → eqb p q ≡ t → t ≡ eqb r s
+    flag true e = sym (eq-eqb r s (f (eqb-true p q e)))
+    flag false e = sym (ne_eqb r s (λ x. eqb-false p q e (g x)))
+
+xor-none : (p q : ℕ) → bit_xor p q ≡ 0 → p ≡ q
+xor-none p q e = omega (arith, xor_add_and p q, and_le_l p q, and_le_r p q)
+
+or-none : (p q : ℕ) → bit_or p q ≡ 0 → (p ≡ 0) × (q ≡ 0)
+or-none p q e =
+    (omega (arith, or_add_and p q, and_le_l p q, and_le_r p q), omega (arith, or_add_and p q, and_le_l p q, and_le_r p q))
 
 -- the halves of a word, joined, are 0 exactly where the word is
 folded-none : (d : ℕ) → eqb (bit_or (d / 4294967296) (d % 4294967296)) 0 ≡ eqb d 0
@@ -43,13 +58,41 @@ same_words a b p q =
 
 -- ---- by their bytes
 
+both : (x y : Bool) → x && y ≡ true → (x ≡ true) × (y ≡ true)
+both true y e = (refl, e)
+both false y e = absurd (false≢true e)
+
+-- a test that can't hold doesn't
+pub never : (x : Bool) → (x ≡ true → ⊥) → x ≡ false
+never true h = absurd (h refl)
+never false h = refl
+
+pub equal_true : (s t : List ℕ) → equal s t ≡ true → s ≡ t
+unfolding equal
+equal_true [] [] e = refl
+equal_true [] (b ∷ t) e = absurd (false≢true e)
+equal_true (a ∷ s) [] e = absurd (false≢true e)
+equal_true (a ∷ s) (b ∷ t) e =
+    let p = both (eqb a b) (equal s t) e in
+    ap₂ (λ (x : ℕ) (l : List ℕ). x ∷ l) (eqb-true a b p.0) (equal_true s t p.1)
+
+pub equal-same : (s : List ℕ) → equal s s ≡ true
+unfolding equal
+equal-same [] = refl
+equal-same (a ∷ s) = rw (eq-eqb a a refl) (equal-same s)
+
+-- two lists are the same or not
+pub same_or_not : (s t : List ℕ) → (s ≡ t) ⊎ (s ≡ t → ⊥)
+same_or_not s t = split (equal s t) refl
+  where
+    split : (b : Bool) → equal s t ≡ b → (s ≡ t) ⊎ (s ≡ t → ⊥)
+    split true e = inl (equal_true s t e)
+    split false e = inr (λ x. false≢true (sym e ∙ ap (equal s) (sym x) ∙ equal-same s))
+
 -- sixteen bytes and a block's are the same exactly where they are one number
 equal-number : (t : List ℕ) (b : Block) → length t ≡ 16 → ((i : ℕ) → i < length t → get_or t i 0 < 256) → Small b
     → eqb (value (block_at t 0)) (value b) ≡ equal t (bytes_of b)
-equal-number t b size bytes small =
-    flags _ _
-    (λ e. ap (equal t) (sym (same_block (eqb-true _ _ e))) ∙ equal-same t)
-    (λ e. eq-eqb _ _ (same-value (equal_true t (bytes_of b) e)))
+equal-number t b size bytes small = flag (eqb (value (block_at t 0)) (value b)) refl
   where
     same_block : value (block_at t 0) ≡ value b → t ≡ bytes_of b
     same_block e =
@@ -58,6 +101,10 @@ equal-number t b size bytes small =
 
     same-value : t ≡ bytes_of b → value (block_at t 0) ≡ value b
     same-value e = ap value (ap (λ (s : List ℕ). block_at s 0) e ∙ block_at-bytes_of b small)
+
+    flag : (x : Bool) → eqb (value (block_at t 0)) (value b) ≡ x → x ≡ equal t (bytes_of b)
+    flag true e = sym (ap (equal t) (sym (same_block (eqb-true _ _ e))) ∙ equal-same t)
+    flag false e = sym (never _ (λ x. eqb-false _ _ e (same-value (equal_true t (bytes_of b) x))))
 
 -- so code compares them: g is the given tag as a block, b the right one, whose bytes are u
 pub tag-fits_of : (t : List ℕ) (b : Block) {u : List ℕ} {g : Block} {r : Bool} → length t ≡ 16

@@ -14,7 +14,7 @@ use Rattle.gcm.specs.Answers.{gmac_refusal, gmac_output, gcm_refusal, EncryptAns
 use Rattle.gcm.specs.Clauses.{encrypt_result, decrypt_result}
 use Rattle.gcm.specs.GcmTheorem.{GcmTheorem}
 use Rattle.gcm.proofs.CounterLaws.{length-GCTR, GCTR-twice}
-use Rattle.refusals.proofs.Tests.{same_or_not}
+use Rattle.gcm.proofs.Comparing.{same_or_not}
 use Rattle.gcm.proofs.Refusals.{no_text, gcm_accepted, gcm_accepts}
 use Rattle.gcm.proofs.GmacLaws.{gmac_kept, gmac-written}
 use Rattle.gcm.proofs.TextLaws.{tag-sum, length-tag, lengths-supported, AD_fits, encrypted-refused, encrypted_done}

@@ -9,9 +9,7 @@ use lib.Dec.{eqb}
 use lib.ListN.{length, take, replicate}
 use lib.Seq.{sets, take_all}
 use borrow.Author.Tests.{eq-eqb, ne_eqb, le-leb}
-use Rattle.refusals.specs.Tests.{equal}
 use Rattle.refusals.proofs.Laws.{first_none, first_here, first_later, agree, differ}
-use Rattle.refusals.proofs.Tests.{never, equal_true, equal-same}
 use Rattle.cipher.specs.Aes.{rows_of}
 use Rattle.field.specs.declared.blocks.Block.{Block}
 use Rattle.field.specs.Field.{◌⊕◌, xor_bytes, bytes_of, blocks, ghash}
@@ -20,7 +18,7 @@ use Rattle.field.proofs.BlockCounts.{blocks-times}
 use Rattle.field.proofs.Stores.{stored-all}
 use Rattle.gcm.specs.Gmac.{CIPH, hash_key, J}
 use Rattle.gcm.specs.Counters.{inc32, CB, concatenated, GCTR}
-use Rattle.gcm.specs.Authenticated.{turned, tag_of_text, GCM_AE, supported, Plaintext, P, FAIL, GCM_AD}
+use Rattle.gcm.specs.Authenticated.{turned, tag_of_text, GCM_AE, supported, equal, Plaintext, P, FAIL, GCM_AD}
 use Rattle.gcm.specs.declared.Cause.{Cause}
 use Rattle.gcm.specs.declared.texts.Begun.{Begun}
 use Rattle.gcm.specs.declared.Answer.{Answer}
@@ -28,6 +26,7 @@ use Rattle.gcm.specs.declared.Answer.TheVariants.{Done, Refused}
 use Rattle.gcm.specs.Answers.{gcm_refusal, encrypted, DecryptAnswer, failed, released, decrypt_refusal, decrypted}
 use Rattle.gcm.specs.Clauses.{key_stream, Begins, answer_refusal, encrypt_result, decrypt_result}
 use Rattle.gcm.proofs.CounterLaws.{GCTR_stream}
+use Rattle.gcm.proofs.Comparing.{never, equal_true, equal-same}
 use Rattle.gcm.proofs.Refusals.{Accepted, gcm_accepted, refused-pos, done_zero}
 
 -- ---- the tag of a text

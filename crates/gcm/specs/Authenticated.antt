@@ -1,6 +1,5 @@
 -- Authenticated encryption and decryption (NIST SP 800-38D, sections 7.1 and 7.2) with a tag of 16 bytes, over bytes.
-use Rattle.std.specs.Prelude.{Bool, cond, ◌&&◌, List, ℕ, ◌-◌, ◌*◌, ◌^◌, eqb, leb, length, take}
-use Rattle.refusals.specs.Tests.{equal}
+use Rattle.std.specs.Prelude.{Bool, true, false, cond, ◌&&◌, List, [], ◌∷◌, ℕ, ◌-◌, ◌*◌, ◌^◌, eqb, leb, length, take}
 use Rattle.field.specs.Field.{bytes_of, ghash}
 use Rattle.gcm.specs.Gmac.{hash_key, J}
 use Rattle.gcm.specs.Counters.{inc32, GCTR}
@@ -28,6 +27,13 @@ GCM_AE key iv p a =
 unfoldable pub supported : (iv text a : List ℕ) → Bool
 supported iv text a =
     leb (8 * length text) (2 ^ 39 - 256) && leb (8 * length a) (2 ^ 64 - 1) && leb 1 (8 * length iv) && leb (8 * length iv) (2 ^ 64 - 1)
+
+-- whether two byte strings are the same (7.2, step 8)
+unfoldable pub equal : List ℕ → List ℕ → Bool
+equal [] [] = true
+equal [] (b ∷ t) = false
+equal (a ∷ s) [] = false
+equal (a ∷ s) (b ∷ t) = eqb a b && equal s t
 
 -- what GCM-AD returns: the plaintext P, or FAIL (7.2)
 pub data Plaintext : Type 0 where

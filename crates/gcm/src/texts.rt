@@ -2,8 +2,7 @@
 ghost use Rattle.std.specs.Prelude.{◌≡◌, true, List, ℕ, ◌≤◌, length};
 ghost use Rattle.cipher.specs.Aes.{key_fits};
 ghost use Rattle.field.specs.Field.{bytes_of, max_bytes};
-ghost use Rattle.refusals.specs.Tests.{equal};
-ghost use Rattle.gcm.specs.Authenticated.{tag_bytes, tag_of_text};
+ghost use Rattle.gcm.specs.Authenticated.{tag_bytes, tag_of_text, equal};
 ghost use Rattle.gcm.specs.Clauses.{Begins};
 
 use super::counters::ciphered;

@@ -15,9 +15,8 @@ use Rattle.field.specs.Field.{zero_block}
 use Rattle.file.specs.declared.states.State.{State}
 use Rattle.file.specs.Edits.{Edit, geometry_at}
 use Rattle.file.specs.States.{zero_state, put}
-use Rattle.file.specs.Calls.{edit, map_call, is_call, call_answer}
-use Rattle.file.specs.Machine.{holding}
-use Rattle.file.specs.Runs.{Run, begun, answered, further, run}
+use Rattle.file.specs.Calls.{edit, call_answer}
+use Rattle.file.specs.Runs.{Run, begun, further, run}
 use Rattle.file.proofs.EditAnswers.{edited-length}
 use Rattle.journal.specs.Records.{record_bytes}
 use Rattle.journal.specs.Journals.{replay_refusal, ReplayAnswer, replayed}
@@ -34,7 +33,7 @@ use Rattle.journal.proofs.HeadLaws.{by_heads}
 
 -- calls of edits count no more than they are charged
 run-charged : (r : Run) (es : List Edit) → (run r (map edit es)).total ≤ r.total + charges r.state.n es
-unfolding run further answered is_call map_call call_answer charges
+unfolding run further call_answer charges
 run-charged r [] = omega arith
 run-charged r (e ∷ es) =
     omega (arith, rw (edited-length r.state e) at (run-charged (further r (edit e)) es), charge-covers r.state e)
@@ -49,7 +48,7 @@ records-charged j at end n (e ∷ es) l o =
 
 -- a run that begins with a state; its plain machine is no matter
 abbrev from_state : State → Run
-from_state st = begun st (holding [] [] 0)
+from_state st = begun st (record { bytes = []; last = 0 })
 
 -- of a journal that is not refused as a whole
 module _ (st : State) (j : List ℕ) (z : replay_refusal st.n j ≡ 0) where
@@ -96,7 +95,7 @@ module _ (r : Run) (e : Edit) (es : List Edit) (g : ℕ) (h : Greatest (further 
   greatest_by false t = record { none_longer = none_by; calls = suc h.calls; reached = omega (arith, ltb-false g r.state.n t, h.reached) }
 
 greatest_of : (r : Run) (es : List Edit) → Greatest r es (greatest_length r.state.n es)
-unfolding greatest_length further answered is_call map_call call_answer
+unfolding greatest_length further call_answer
 greatest_of r [] = greatest-none r
 greatest_of r (e ∷ es) =
     let g = greatest_length (geometry_at r.state.n e).n es in

@@ -12,8 +12,8 @@ use Rattle.field.specs.Field.{max_bytes, bytes}
 use Rattle.field.proofs.Bytes.{length-bytes}
 use Rattle.file.specs.declared.states.State.{State}
 use Rattle.file.specs.Edits.{Edit, append, kind_of, place_of, given, replacing}
-use Rattle.file.specs.Calls.{edit, map_call, is_call, call_answer}
-use Rattle.file.specs.Runs.{Run, answered, further, run}
+use Rattle.file.specs.Calls.{edit, call_answer}
+use Rattle.file.specs.Runs.{Run, further, run}
 use Rattle.file.specs.Met.{appends}
 use Rattle.file.proofs.EditAnswers.{edited-length}
 use Rattle.file.proofs.KnownLists.{append-refusal, append-length}
@@ -32,7 +32,7 @@ some-appended : (k : ℕ) (r : Run) (parts : List (List ℕ)) → r.state.n + le
     → let m = (run r (map edit (take k (map append parts)))).state.n in
     let all = r.state.n + length (flatten parts) in
     (m ≤ all) × (length parts ≤ k → m ≡ all)
-unfolding run further answered is_call map_call call_answer flatten
+unfolding run further call_answer flatten
 some-appended zero r [] l = (omega arith, λ z. omega arith)
 some-appended zero r (part ∷ parts) l = (omega arith, λ z. absurd (omega arith))
 some-appended (suc k) r [] l = (omega arith, λ z. omega arith)

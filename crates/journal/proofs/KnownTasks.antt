@@ -13,15 +13,16 @@ use Rattle.file.specs.declared.states.State.{State}
 use Rattle.file.specs.Edits.{append}
 use Rattle.file.specs.States.{zero_state, put, Start, started, read_file}
 use Rattle.file.specs.Slips.{slip_bytes, slip_number, sealed}
-use Rattle.file.specs.Calls.{Call, edit, seal, map_call, is_call}
-use Rattle.file.specs.Machine.{holding, blank, lent}
+use Rattle.file.specs.Calls.{Call, edit, seal}
+use Rattle.file.specs.Machine.{Machine, blank, lent}
 use Rattle.file.specs.Runs.{Run, begun, further, run, begun_from, from_read, Written, written_in}
-use Rattle.file.specs.Demands.{AcceptedStart, SlipOf, up_from, TwoRuns}
+use Rattle.file.specs.Demands.{AcceptedStart, SlipOf, up_from}
 use Rattle.file.specs.Met.{appends, append_counts}
 use Rattle.file.proofs.KnownLists.{run-append, longer, seal-accepts, risen}
 use Rattle.file.proofs.HypothesesMet.{read-sum}
-use Rattle.journal.specs.Singly.{made, stop_of, Task, call, Editor, idle, worked_all, task_calls, task_refusal, as_calls, task_refusals, SameEditor}
-use Rattle.journal.specs.Met.{append_journal, Replayable, AllReplayable, journals, journals_then_seals, Filed, JournalDemandsMet, Appended}
+use Rattle.journal.specs.Journals.{replayed}
+use Rattle.journal.specs.Singly.{made, stop_of, Task, call, replay, idle, worked_all, task_calls, task_refusal, as_calls, task_refusals}
+use Rattle.journal.specs.Met.{append_journal, Replayable, AllReplayable, journals_then_seals, Filed, JournalDemandsMet}
 use Rattle.journal.proofs.Singly.{replay_theorem}
 use Rattle.journal.proofs.Lists.{journal_demands}
 use Rattle.journal.proofs.KnownJournals.{made_journal, replayed_whole}
@@ -29,7 +30,7 @@ use Rattle.journal.proofs.KnownJournals.{made_journal, replayed_whole}
 -- ---- what stands for such a list
 
 -- the calls that stand for a list of tasks, and what the plain machine answers to each task
-pub record StandsFor (r : Run) (ts : List Task) (cs : List Call) (ns : List ℕ) : Type 0 where
+record StandsFor (r : Run) (ts : List Task) (cs : List Call) (ns : List ℕ) : Type 0 where
   pub calls : as_calls r ts ≡ cs
   pub refusals : task_refusals r ts ≡ ns
 
@@ -38,10 +39,14 @@ stop-none : (n : ℕ) (parts : List (List ℕ)) → Replayable parts → n + len
 unfolding begun put
 stop-none n parts h l =
     let st = put zero_state zero_block n in
-    ap (λ (x : ℕ × ℕ). x.0) (sym (replay_theorem.stops st (append_journal parts))) ∙ (replayed_whole (begun st (holding [] [] 0)) parts h l).refusal
+    let m : Machine = record { bytes = []; last = 0 } in
+    ap (λ (x : ℕ × ℕ). x.0) (sym (replay_theorem.stops st (append_journal parts))) ∙ (replayed_whole (begun st m) parts h l).refusal
+
+abbrev journals : List (List (List ℕ)) → List Task
+journals groups = map (λ (parts : List (List ℕ)). replay (append_journal parts)) groups
 
 -- journals of appends stand for the appends of all their parts
-pub as_appends : (r : Run) (groups : List (List (List ℕ))) (ts : List Task) → AllReplayable groups
+as_appends : (r : Run) (groups : List (List (List ℕ))) (ts : List Task) → AllReplayable groups
     → length r.machine.bytes + length (flatten (flatten groups)) ≤ max_bytes
     → let after = run r (appends (flatten groups)) in
     StandsFor r (journals groups ++ ts) (appends (flatten groups) ++ as_calls after ts) (replicate (length groups) 0 ++ task_refusals after ts)
@@ -73,7 +78,7 @@ as_appends r (parts ∷ groups) ts h l =
 -- and plain seals for themselves
 as_seals : (r : Run) (k : ℕ) (out : List ℕ) → length r.machine.bytes ≤ max_bytes → length out ≡ slip_bytes → r.machine.last + k < 2 ^ 64
     → StandsFor r (replicate k (call (seal out))) (replicate k (seal out)) (replicate k 0)
-unfolding as_calls task_calls task_refusals task_refusal is_call map_call run further
+unfolding as_calls task_calls task_refusals task_refusal run further
 as_seals r zero out short room left = record { calls = refl; refusals = refl }
 as_seals r (suc k) out short room left =
     let one = risen r out 1 short room (omega (arith, left)) in
@@ -86,17 +91,13 @@ as_seals r (suc k) out short room left =
 
 -- ---- what such a list leaves of the plain machine
 
--- parts behind the bytes, and the count of their appends, run from b to r
-pub record Behind (b : Run) (parts : List (List ℕ)) (r : Run) : Type 0 where
-  pub bytes : r.machine.bytes ≡ b.machine.bytes ++ flatten parts
-  pub truth : b.truth → r.truth
-  pub total : r.machine_total ≡ b.machine_total + append_counts (length b.machine.bytes) parts
-
--- k seals behind journals of groups of parts
+-- k seals behind journals of groups of parts, run from b to r
 record Left (b : Run) (groups : List (List (List ℕ))) (k : ℕ) (tasks : List Task) (r : Run) : Type 0 where
   pub refusals : task_refusals b tasks ≡ replicate (length groups) 0 ++ replicate k 0
-  pub behind : Behind b (flatten groups) r
+  pub bytes : r.machine.bytes ≡ b.machine.bytes ++ flatten (flatten groups)
   pub last : r.machine.last ≡ b.machine.last + k
+  pub truth : b.truth → r.truth
+  pub total : r.machine_total ≡ b.machine_total + append_counts (length b.machine.bytes) (flatten groups)
 
 leaves : (b : Run) (groups : List (List (List ℕ))) → AllReplayable groups → length b.machine.bytes + length (flatten (flatten groups)) ≤ max_bytes
     → (k : ℕ) → b.machine.last + k < 2 ^ 64 → (out : List ℕ) → length out ≡ slip_bytes
@@ -115,34 +116,13 @@ leaves b groups h short k left out room =
     ap (run b) (front.calls ∙ ap (λ (cs : List Call). appends parts ++ cs) back.calls) ∙ run-append b (appends parts) (replicate k (seal out)) in
     record {
       refusals = front.refusals ∙ ap (λ (xs : List ℕ). replicate (length groups) 0 ++ xs) back.refusals;
-      behind =
-          record {
-            bytes = ap (λ (x : Run). x.machine.bytes) calls ∙ raised.bytes ∙ longest.bytes;
-            truth = λ t. subst (λ (x : Run). x.truth) (sym calls) (raised.truth (longest.truth t));
-            total = ap (λ (x : Run). x.machine_total) calls ∙ raised.total ∙ longest.total;
-          };
+      bytes = ap (λ (x : Run). x.machine.bytes) calls ∙ raised.bytes ∙ longest.bytes;
       last = ap (λ (x : Run). x.machine.last) calls ∙ raised.last ∙ ap (λ (n : ℕ). n + k) longest.last;
+      truth = λ t. subst (λ (x : Run). x.truth) (sym calls) (raised.truth (longest.truth t));
+      total = ap (λ (x : Run). x.machine_total) calls ∙ raised.total ∙ longest.total;
     }
 
 -- ---- from a start and from a read
-
--- what the editor then holds, by the demands
-pub appended : (s : Start) (parts : List (List ℕ)) (ts : List Task) {w : Editor} {r : Run} {answers : List ℕ}
-    → let b = begun (started s).state (blank s) in
-    task_refusals b ts ≡ answers → Behind b parts r → SameEditor b ts w r → TwoRuns s r → Appended s parts answers w
-unfolding begun blank
-appended s parts ts {w} {r} e g same runs =
-    let size = length-replicate s.n s.fill in
-    record {
-      refusals = same.refusals ∙ e;
-      sums = ap (λ (st : State). st.s) same.state ∙ read-sum s r runs (g.truth tt) ∙ ap (sum (hash_key s.key)) g.bytes;
-      lengths = ap (λ (st : State). st.n) same.state
-          ∙ runs.lengths
-          ∙ ap length g.bytes
-          ∙ length-append (replicate s.n s.fill) (flatten parts)
-          ∙ ap (λ (n : ℕ). n + length (flatten parts)) size;
-      total = same.total ∙ runs.total ∙ g.total ∙ ap (λ (n : ℕ). 0 + append_counts n parts) size ∙ zero-add _;
-    }
 
 filed : (s : Start) → AcceptedStart s → (groups : List (List (List ℕ))) → AllReplayable groups → s.n + length (flatten (flatten groups)) ≤ max_bytes
     → (k : ℕ) → s.last + k < 2 ^ 64 → (out : List ℕ) → length out ≡ slip_bytes
@@ -151,18 +131,22 @@ unfolding begun_from begun blank
 filed s a groups h short k left out room =
     let ts = journals_then_seals groups k out in
     let b = begun (started s).state (blank s) in
-    let g = leaves b groups h (rw (length-replicate s.n s.fill) short) k left out room in
+    let size = length-replicate s.n s.fill in
+    let g = leaves b groups h (rw size short) k left out room in
     let demands = journal_demands.start s a ts in
     let same = demands.0 in
     let runs = demands.1 in
-    let all = appended s (flatten groups) ts g.refusals g.behind same runs in
     let many : length (run b (as_calls b ts)).numbers ≡ k = omega (arith, runs.issues, g.last) in
     let numbers = runs.numbers ∙ ap (up_from (s.last + 1)) many in
     record {
-      refusals = all.refusals;
-      sums = all.sums;
-      lengths = all.lengths;
-      total = all.total;
+      refusals = same.refusals ∙ g.refusals;
+      sums = ap (λ (st : State). st.s) same.state ∙ read-sum s _ runs (g.truth tt) ∙ ap (sum (hash_key s.key)) g.bytes;
+      lengths = ap (λ (st : State). st.n) same.state
+          ∙ runs.lengths
+          ∙ ap length g.bytes
+          ∙ length-append (replicate s.n s.fill) (flatten (flatten groups))
+          ∙ ap (λ (n : ℕ). n + length (flatten (flatten groups))) size;
+      total = same.total ∙ runs.total ∙ g.total ∙ ap (λ (n : ℕ). 0 + append_counts n (flatten groups)) size ∙ zero-add _;
       numbers = same.numbers ∙ numbers;
       on_slips = ap (map slip_number) same.slips ∙ map-map slip_number (λ (w : Written). w.slip) (written_in b (as_calls b ts)) ∙ demands.3.numbers ∙ numbers;
     }
@@ -178,8 +162,8 @@ journal_demands_met =
           let g = leaves b groups h short k (omega (arith, left)) out room in
           let demands = journal_demands.read f a ts in
           let r = run b (as_calls b ts) in
-          let size : length r.machine.bytes ≤ max_bytes = rw (g.behind.bytes, length-append f.file (flatten (flatten groups))) short in
+          let size : length r.machine.bytes ≤ max_bytes = rw (g.bytes, length-append f.file (flatten (flatten groups))) short in
           let accepted = seal-accepts r.machine out size room (omega (arith, left, g.last)) in
           subst (λ (st : State). SlipOf f.key f.arm (f.file ++ flatten (flatten groups)) (sealed st out).slip) (sym demands.0.state)
-          (subst (λ (x : List ℕ). SlipOf f.key f.arm x (sealed r.state out).slip) g.behind.bytes ((demands.1 (g.behind.truth tt)).seals out accepted));
+          (subst (λ (x : List ℕ). SlipOf f.key f.arm x (sealed r.state out).slip) g.bytes ((demands.1 (g.truth tt)).seals out accepted));
     }

@@ -14,5 +14,3 @@ pub mod Lists
 pub mod KnownJournals
 pub mod KnownForecasts
 pub mod KnownTasks
-pub mod AskRuns
-pub mod KnownAsks

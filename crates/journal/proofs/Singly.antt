@@ -13,8 +13,8 @@ use Rattle.field.specs.Field.{max_bytes}
 use Rattle.file.specs.declared.states.State.{State}
 use Rattle.file.specs.Edits.{Edit, geometry_at, edit_refusal}
 use Rattle.file.specs.States.{edited}
-use Rattle.file.specs.Calls.{edit, map_call, is_call, call_answer}
-use Rattle.file.specs.Runs.{Run, answered, further, run}
+use Rattle.file.specs.Calls.{edit, call_answer}
+use Rattle.file.specs.Runs.{Run, further, run}
 use Rattle.file.proofs.Demand1.{edited_kept}
 use Rattle.file.proofs.EditAnswers.{edited-refusal, edited-length}
 use Rattle.journal.specs.Records.{head_bytes, record_bytes, Opening, opens, refused, ended, opening}
@@ -69,7 +69,7 @@ walked_stop r j at count refusal e d =
 walked_next : (r : Run) (j : List ℕ) (at next count : ℕ) (e : Edit) (es : List Edit) (a : ReplayAnswer) → (edited r.state e).refusal ≡ 0
     → opening j at ≡ opens e next → next ≡ at + record_bytes e → Walked (further r (edit e)) j next (count + (edited r.state e).count) es a
     → Walked r j at count (e ∷ es) a
-unfolding run further answered is_call map_call call_answer Opens
+unfolding run further call_answer Opens
 walked_next r j at next count e es a z q n w =
     record {
       accepted =
@@ -121,7 +121,7 @@ module _ (most : ℕ) (j : List ℕ) (r : Run) (at count : ℕ) (within : at ≤
         (walked_stop r j at count (edited r.state e).refusal (sym (ap (answer_at r.state) q)) (λ x. absurd (z x)))
 
     walk_next : (edited r.state e).refusal ≡ 0 → Walk most j r at count
-    unfolding further answered is_call map_call call_answer
+    unfolding further call_answer
     walk_next z =
         let y : edit_refusal r.state.n e ≡ 0 = sym (edited-refusal r.state e) ∙ z in
         rw (made-opens most j at r.state.n q, applied-opens most j at r.state count q, eq-eqb _ 0 z, eq-eqb _ 0 y)

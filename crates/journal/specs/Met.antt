@@ -1,6 +1,6 @@
 -- What the journal's theorems say of journals that are known to the end: records of any edits, and journals of appends, however many and however
 -- long. A hypothesis that were added to a theorem, such as a bound on a list or on an edit's bytes, would break what is said here. The proofs are
--- `format_met`, `replay-met`, `forecast_met`, `journal_demands_met` and `asks-met` in proofs/KnownJournals, KnownForecasts, KnownTasks and KnownAsks.
+-- `format_met`, `replay-met`, `forecast_met` and `journal_demands_met` in proofs/KnownJournals, KnownForecasts and KnownTasks.
 use Rattle.std.specs.Prelude.{◌≡◌, ◌≢◌, ℕ, ◌+◌, ◌≤◌, ◌<◌, ◌^◌, length, replicate}
 use mathlib.Core.List.{List, [], ◌∷◌, ◌++◌, map, flatten}
 use Rattle.field.specs.Field.{sum, max_bytes}
@@ -9,7 +9,7 @@ use Rattle.file.specs.declared.states.State.{State}
 use Rattle.file.specs.Edits.{Edit, change, append, prepend, drop_front, cut_tail, geometry_at, count_limit}
 use Rattle.file.specs.States.{Start, Reading, started, read_file}
 use Rattle.file.specs.Slips.{slip_bytes, slip_number, sealed}
-use Rattle.file.specs.Calls.{seal, ask, commit}
+use Rattle.file.specs.Calls.{seal}
 use Rattle.file.specs.Runs.{Run, run}
 use Rattle.file.specs.Demands.{AcceptedStart, AcceptedRead, SlipOf, up_from}
 use Rattle.file.specs.Met.{appends, append_counts, grown}
@@ -113,16 +113,12 @@ unfoldable pub AllReplayable : List (List (List ℕ)) → Type 0
 AllReplayable [] = Unit {0}
 AllReplayable (parts ∷ groups) = Replayable parts × AllReplayable groups
 
--- a journal for each group of parts; our own, as all that follows
-abbrev pub journals : List (List (List ℕ)) → List Task
-journals groups = map (λ (parts : List (List ℕ)). replay (append_journal parts)) groups
-
--- and then k seals
+-- a journal for each group of parts, and then k seals; our own
 abbrev pub journals_then_seals : List (List (List ℕ)) → (k : ℕ) (out : List ℕ) → List Task
-journals_then_seals groups k out = journals groups ++ replicate k (call (seal out))
+journals_then_seals groups k out = map (λ (parts : List (List ℕ)). replay (append_journal parts)) groups ++ replicate k (call (seal out))
 
 -- what the editor has done then: it refused nothing, its sum and length are those of the bytes with every part, its total is the formula's, and its
--- seal numbers are the next ones, each on a slip
+-- seal numbers are the next ones, each on a slip; our own
 pub record Filed (s : Start) (groups : List (List (List ℕ))) (k : ℕ) (w : Editor) : Type 0 where
   pub refusals : w.refusals ≡ replicate (length groups) 0 ++ replicate k 0
   pub sums : w.state.s ≡ sum (hash_key s.key) (grown s (flatten groups))
@@ -143,33 +139,3 @@ pub record JournalDemandsMet : Type 0 where
       → length out ≡ slip_bytes
       → let w = worked_all (idle (read_file f).state) (journals_then_seals groups k out) in
       SlipOf f.key f.arm (f.file ++ flatten (flatten groups)) (sealed w.state out).slip
-
--- ---- lists of journals, with an ask and a commit
-
--- an append that is asked for before the journals and committed behind them (document 02, Q-8)
-abbrev pub journals_between : (part : List ℕ) → List (List (List ℕ)) → List Task
-journals_between part groups = (call (ask (append part)) ∷ journals groups) ++ (call (commit 0) ∷ [])
-
--- one that is asked for behind the journals and committed at once; the commit before them names no ask before it (document 02, Q-8)
-abbrev pub journals_before : (part : List ℕ) → List (List (List ℕ)) → List Task
-journals_before part groups = (call (commit 0) ∷ journals groups) ++ (call (ask (append part)) ∷ call (commit 0) ∷ [])
-
--- what the editor has done then: it answered so, its sum and length are those of the bytes with these parts, and its total is the formula's
-pub record Appended (s : Start) (parts : List (List ℕ)) (answers : List ℕ) (w : Editor) : Type 0 where
-  pub refusals : w.refusals ≡ answers
-  pub sums : w.state.s ≡ sum (hash_key s.key) (grown s parts)
-  pub lengths : w.state.n ≡ s.n + length (flatten parts)
-  pub total : w.total ≡ append_counts s.n parts
-
--- so the demands of lists in which journals stand say of them (document 02, Q-8)
-pub record AsksMet : Type 0 where
-  -- journals with bytes between an ask and its commit: the commit is refused with 16, and nothing of the append is made
-  pub outdated :
-      (s : Start) → AcceptedStart s → (groups : List (List (List ℕ))) → AllReplayable groups → s.n + length (flatten (flatten groups)) ≤ max_bytes
-      → 0 < length (flatten (flatten groups)) → (part : List ℕ) → s.n + length part ≤ max_bytes
-      → Appended s (flatten groups) (0 ∷ replicate (length groups) 0 ++ (16 ∷ [])) (worked_all (idle (started s).state) (journals_between part groups))
-  -- none between them: the append is made; and a commit that names no ask before it is passed over
-  pub in_time :
-      (s : Start) → AcceptedStart s → (groups : List (List (List ℕ))) → AllReplayable groups → (part : List ℕ)
-      → s.n + length (flatten (flatten groups)) + length part ≤ max_bytes
-      → Appended s (flatten groups ++ (part ∷ [])) (replicate (length groups) 0 ++ (0 ∷ 0 ∷ [])) (worked_all (idle (started s).state) (journals_before part groups))

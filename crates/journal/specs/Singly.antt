@@ -3,11 +3,10 @@
 use Rattle.std.specs.Prelude.{◌≡◌, cond, List, [], ◌∷◌, ◌++◌, map, ℕ, ◌+◌, ◌≤◌, ◌<◌, eqb, length, replicate}
 use Rattle.field.specs.Field.{max_bytes}
 use Rattle.file.specs.declared.states.State.{State}
-use Rattle.file.specs.declared.pendings.Pending.{Pending}
 use Rattle.file.specs.Edits.{Edit, geometry_at, edit_refusal}
 use Rattle.file.specs.States.{Start, Reading, started, read_file, edited}
-use Rattle.file.specs.Calls.{Call, edit, with_pending, is_call, call_answer}
-use Rattle.file.specs.Machine.{Machine, blank, lent, Ask, with_ask, machine_refusal}
+use Rattle.file.specs.Calls.{Call, edit, call_answer}
+use Rattle.file.specs.Machine.{Machine, blank, lent, machine_refusal}
 use Rattle.file.specs.Runs.{Run, begun, run, begun_from, from_read, Written, written_in}
 use Rattle.file.specs.Demands.{AcceptedStart, AcceptedRead, Sealing, TwoRuns, Ages}
 use Rattle.journal.specs.Records.{record_bytes, Opening, opens, refused, ended, opening}
@@ -83,11 +82,10 @@ pub data Task : Type 0 where
   call : Call → Task
   replay : List ℕ → Task
 
--- the editor alone: its state, the pending edits that its accepted asks returned (document 02, Q-8), the sum of the counts that it reported, the
--- number that it answered to each task, the seal numbers that it issued, the slips that its accepted seals wrote, and where each journal stopped
+-- the editor alone: its state, the sum of the counts that it reported, the number that it answered to each task, the seal numbers that it issued,
+-- the slips that its accepted seals wrote, and where each journal stopped
 pub record Editor : Type 0 where
   pub state : State
-  pub pendings : List Pending
   pub total : ℕ
   pub refusals : List ℕ
   pub numbers : List ℕ
@@ -96,30 +94,24 @@ pub record Editor : Type 0 where
 
 -- before the first task
 unfoldable pub idle : State → Editor
-idle st = record { state = st; pendings = []; total = 0; refusals = []; numbers = []; slips = []; stops = [] }
+idle st = record { state = st; total = 0; refusals = []; numbers = []; slips = []; stops = [] }
 
--- after one call more; one that issues a number writes the slip that it stands on
-unfoldable pub called : Editor → Call → Editor
-called w c =
-    let a = call_answer w.state (with_pending w.pendings c) in
+-- after one task more; a call that issues a number writes the slip that it stands on
+unfoldable pub worked : Editor → Task → Editor
+worked w (call c) =
+    let a = call_answer w.state c in
     record {
       state = a.state;
-      pendings = w.pendings ++ a.pending;
       total = w.total + a.count;
       refusals = w.refusals ++ (a.refusal ∷ []);
       numbers = w.numbers ++ a.issued;
       slips = w.slips ++ map (λ (number : ℕ). a.slip) a.issued;
       stops = w.stops;
     }
-
--- after one task more; a commit that names no accepted ask before it is passed over (document 02, Q-8)
-unfoldable pub worked : Editor → Task → Editor
-worked w (call c) = cond (is_call (length w.pendings) c) (called w c) w
 worked w (replay j) =
     let a = replayed w.state j in
     record {
       state = a.state;
-      pendings = w.pendings;
       total = w.total + a.count;
       refusals = w.refusals ++ (a.refusal ∷ []);
       numbers = w.numbers;
@@ -137,11 +129,10 @@ unfoldable pub task_calls : ℕ → Task → List Call
 task_calls n (call c) = c ∷ []
 task_calls n (replay j) = map edit (made n j)
 
--- what the plain machine, which accepted these asks, answers to a task: to a journal the number that it stops with, and nothing where it passes
--- over a commit (document 02, Q-8)
-unfoldable pub task_refusal : Machine → List Ask → Task → List ℕ
-task_refusal m asks (call c) = cond (is_call (length asks) c) (machine_refusal m (with_ask asks c) ∷ []) []
-task_refusal m asks (replay j) = (stop_of (length m.bytes) j).0 ∷ []
+-- what the plain machine answers to a task: to a journal the number that it stops with
+unfoldable pub task_refusal : Machine → Task → ℕ
+task_refusal m (call c) = machine_refusal m c
+task_refusal m (replay j) = (stop_of (length m.bytes) j).0
 
 -- where a task stops there, if it is a journal
 unfoldable pub task_stops : ℕ → Task → List (ℕ × ℕ)
@@ -158,7 +149,7 @@ as_calls r (t ∷ ts) =
 -- what the plain machine answers to each task of a list
 unfoldable pub task_refusals : Run → List Task → List ℕ
 task_refusals r [] = []
-task_refusals r (t ∷ ts) = task_refusal r.machine r.asks t ++ task_refusals (run r (task_calls (length r.machine.bytes) t)) ts
+task_refusals r (t ∷ ts) = task_refusal r.machine t ∷ task_refusals (run r (task_calls (length r.machine.bytes) t)) ts
 
 -- where the plain machine stops in each journal of a list
 unfoldable pub machine_stops : Run → List Task → List (ℕ × ℕ)
@@ -167,12 +158,10 @@ machine_stops r (t ∷ ts) =
     let n = length r.machine.bytes in
     task_stops n t ++ machine_stops (run r (task_calls n t)) ts
 
--- an editor that replays journals, from a run's state on, is that of r, the run in which they stand as their edits: state, pending edits, total and
--- seal numbers are r's, and the slips those that r's calls wrote. It answers to each task what the plain machine does, and stops in journals where
--- that does
+-- an editor that replays journals, from a run's state on, is that of r, the run in which they stand as their edits: state, total and seal numbers
+-- are r's, and the slips those that r's calls wrote. It answers to each task what the plain machine does, and stops in journals where that does
 pub record SameEditor (begin : Run) (ts : List Task) (w : Editor) (r : Run) : Type 0 where
   pub state : w.state ≡ r.state
-  pub pendings : w.pendings ≡ r.pendings
   pub total : w.total ≡ r.total
   pub refusals : w.refusals ≡ task_refusals begin ts
   pub numbers : w.numbers ≡ r.numbers

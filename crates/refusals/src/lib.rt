@@ -1,2 +1,2 @@
-// How a call's refusal is read off the list of its causes, and whether two byte lists are the same. This crate stands below the layers and has no code:
-// the definitions are in specs, their laws in proofs.
+// How a call's refusal is read off the list of its causes. This crate stands below the layers and has no code: the definition is in
+// specs/Refusals, its laws in proofs/Laws.

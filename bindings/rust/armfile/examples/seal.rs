@@ -1,7 +1,6 @@
 //! One motion file's life in a controller: begun on a blank card, written and
-//! edited, changed over a card write that fails and one that doesn't, sealed,
-//! stored with its slip, and checked after a restart. The last line printed is
-//! the verdict on the newest slip.
+//! edited, sealed, stored with its slip, and checked after a restart. The last
+//! line printed is the verdict on the newest slip.
 
 use armfile::{Refusal, State, Verdict, SLIP_BYTES};
 
@@ -17,7 +16,6 @@ fn main() -> Result<(), Refusal> {
     let (mut state, products) = State::start(&KEY, ARM, 0, 21, ERASED)?;
     println!("the blank card took {products} products");
     write(&mut state)?;
-    let card = regripped(&mut state)?;
 
     // A line more is sealed, and taken off again: the first slip then fits the
     // bytes once more, but it is an old one.
@@ -37,9 +35,10 @@ fn main() -> Result<(), Refusal> {
     let (length, arm, last) = (state.length(), state.arm(), state.last());
     println!("arm {arm} holds {length} bytes, sealed under number {last}");
 
-    // The same state comes of the card itself, read in one piece. Only the
+    // The same state comes of the file itself, read in one piece. Only the
     // newest slip will do, for both.
-    let read = State::read(&KEY, ARM, last, &card.bytes)?;
+    let file = b"; motion file 3\nMOVE 11 20 30\nGRIP 4\n";
+    let read = State::read(&KEY, ARM, last, file)?;
     let mut verdict = state.check(&slip)?;
     if verdict == Verdict::Current {
         verdict = read.check(&slip)?;
@@ -67,57 +66,6 @@ fn write(state: &mut State) -> Result<(), Refusal> {
         Ok(_) => unreachable!("eleven bytes are no whole block"),
     }
     Ok(())
-}
-
-/// The gripper's number becomes 5, on the card and in the state. The card fails
-/// the first write, and then neither of them has moved.
-fn regripped(state: &mut State) -> Result<Card, Refusal> {
-    let mut card = Card {
-        bytes: *b"; motion file 3\nMOVE 11 20 30\nGRIP 4\n",
-        fails: 1,
-    };
-    while !changed(state, &mut card, 35, b"4", b"5")? {
-        println!("the write failed, and the state is as it was");
-    }
-    Ok(card)
-}
-
-/// The file's card, and how many writes of it will fail.
-struct Card {
-    bytes: [u8; 37],
-    fails: u32,
-}
-
-impl Card {
-    /// Writes the bytes from `p` on, or fails and writes none of them.
-    fn write(&mut self, p: usize, bytes: &[u8]) -> bool {
-        if self.fails > 0 {
-            self.fails -= 1;
-            return false;
-        }
-        self.bytes[p..p + bytes.len()].copy_from_slice(bytes);
-        true
-    }
-}
-
-/// A change that is asked for first, and committed once the card has it. Answers
-/// whether the card could be written.
-fn changed(
-    state: &mut State,
-    card: &mut Card,
-    p: usize,
-    old: &[u8],
-    new: &[u8],
-) -> Result<bool, Refusal> {
-    let pending = state.ask_change(p as u64, old, new)?;
-    // A controller that may stop here stores the pending edit's bytes first, to
-    // commit them when it comes up and sees the new bytes on the card.
-    if !card.write(p, new) {
-        return Ok(false); // the pending edit is wiped, and leaves no trace
-    }
-    let products = state.commit(&pending)?;
-    println!("the card is written, and {products} products are committed");
-    Ok(true)
 }
 
 /// The slip of a seal.

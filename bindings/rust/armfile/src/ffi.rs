@@ -24,14 +24,6 @@ pub const STATE_BYTES: usize = 84;
 /// each most significant byte first.
 pub type StateBytes = [u8; STATE_BYTES];
 
-/// The bytes of a lent pending edit.
-pub const PENDING_BYTES: usize = 72;
-
-/// A lent pending edit: the sum 16, the length 8 and the count 8 that it would
-/// give, and the key 16, the sum 16 and the length 8 that it started from, each
-/// most significant byte first.
-pub type PendingBytes = [u8; PENDING_BYTES];
-
 /// armfile.h as it is, function for function. What it says that callers must
 /// guarantee holds here too.
 pub mod c {
@@ -167,40 +159,6 @@ pub mod c {
             bytes_len: usize,
             count: *mut u64,
         ) -> u64;
-        pub fn armfile_ask_change(
-            state: *const u8,
-            p: u64,
-            old: *const u8,
-            old_len: usize,
-            new: *const u8,
-            new_len: usize,
-            pending: *mut u8,
-        ) -> u64;
-        pub fn armfile_ask_append(
-            state: *const u8,
-            bytes: *const u8,
-            bytes_len: usize,
-            pending: *mut u8,
-        ) -> u64;
-        pub fn armfile_ask_prepend(
-            state: *const u8,
-            bytes: *const u8,
-            bytes_len: usize,
-            pending: *mut u8,
-        ) -> u64;
-        pub fn armfile_ask_drop_front(
-            state: *const u8,
-            bytes: *const u8,
-            bytes_len: usize,
-            pending: *mut u8,
-        ) -> u64;
-        pub fn armfile_ask_cut_tail(
-            state: *const u8,
-            bytes: *const u8,
-            bytes_len: usize,
-            pending: *mut u8,
-        ) -> u64;
-        pub fn armfile_commit(state: *mut u8, pending: *const u8, count: *mut u64) -> u64;
         pub fn armfile_replay(
             state: *mut u8,
             journal: *const u8,
@@ -497,86 +455,6 @@ pub fn drop_front(state: &mut StateBytes, bytes: &[u8], count: &mut u64) -> u64 
 pub fn cut_tail(state: &mut StateBytes, bytes: &[u8], count: &mut u64) -> u64 {
     // SAFETY: as said at the module's head.
     unsafe { c::armfile_cut_tail(state.as_mut_ptr(), pointer(bytes), bytes.len(), count) }
-}
-
-/// `armfile_ask_change`: [`crate::State::ask_change`].
-pub fn ask_change(
-    state: &StateBytes,
-    p: u64,
-    old: &[u8],
-    new: &[u8],
-    pending: &mut PendingBytes,
-) -> u64 {
-    // SAFETY: as said at the module's head.
-    unsafe {
-        c::armfile_ask_change(
-            state.as_ptr(),
-            p,
-            pointer(old),
-            old.len(),
-            pointer(new),
-            new.len(),
-            pending.as_mut_ptr(),
-        )
-    }
-}
-
-/// `armfile_ask_append`: [`crate::State::ask_append`].
-pub fn ask_append(state: &StateBytes, bytes: &[u8], pending: &mut PendingBytes) -> u64 {
-    // SAFETY: as said at the module's head.
-    unsafe {
-        c::armfile_ask_append(
-            state.as_ptr(),
-            pointer(bytes),
-            bytes.len(),
-            pending.as_mut_ptr(),
-        )
-    }
-}
-
-/// `armfile_ask_prepend`: [`crate::State::ask_prepend`].
-pub fn ask_prepend(state: &StateBytes, bytes: &[u8], pending: &mut PendingBytes) -> u64 {
-    // SAFETY: as said at the module's head.
-    unsafe {
-        c::armfile_ask_prepend(
-            state.as_ptr(),
-            pointer(bytes),
-            bytes.len(),
-            pending.as_mut_ptr(),
-        )
-    }
-}
-
-/// `armfile_ask_drop_front`: [`crate::State::ask_drop_front`].
-pub fn ask_drop_front(state: &StateBytes, bytes: &[u8], pending: &mut PendingBytes) -> u64 {
-    // SAFETY: as said at the module's head.
-    unsafe {
-        c::armfile_ask_drop_front(
-            state.as_ptr(),
-            pointer(bytes),
-            bytes.len(),
-            pending.as_mut_ptr(),
-        )
-    }
-}
-
-/// `armfile_ask_cut_tail`: [`crate::State::ask_cut_tail`].
-pub fn ask_cut_tail(state: &StateBytes, bytes: &[u8], pending: &mut PendingBytes) -> u64 {
-    // SAFETY: as said at the module's head.
-    unsafe {
-        c::armfile_ask_cut_tail(
-            state.as_ptr(),
-            pointer(bytes),
-            bytes.len(),
-            pending.as_mut_ptr(),
-        )
-    }
-}
-
-/// `armfile_commit`: [`crate::State::commit`].
-pub fn commit(state: &mut StateBytes, pending: &PendingBytes, count: &mut u64) -> u64 {
-    // SAFETY: as said at the module's head.
-    unsafe { c::armfile_commit(state.as_mut_ptr(), pending.as_ptr(), count) }
 }
 
 /// `armfile_replay`: [`crate::State::replay`].

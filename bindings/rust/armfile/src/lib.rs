@@ -9,9 +9,7 @@
 //! encrypted by [`gcm_encrypt`] and brought back by [`gcm_decrypt`], which need
 //! no state. Of a file that is kept in parts [`join()`] gives the sum and the
 //! length, from those of the parts. What a journal of edits will do to a file
-//! [`forecast()`] tells beforehand, from the heads of its records. Where the
-//! write to a card can fail, an edit is asked for first and committed after it:
-//! a [`Pending`] edit.
+//! [`forecast()`] tells beforehand, from the heads of its records.
 //!
 //! ```
 //! use armfile::{State, Verdict, SLIP_BYTES};
@@ -53,19 +51,16 @@ extern crate std;
 
 use core::fmt;
 
-mod commit;
 pub mod ffi;
 mod forecast;
 mod join;
-mod pending;
 #[cfg(doctest)]
 mod refused;
 mod wipe;
 
-pub use ffi::{PendingBytes, StateBytes, BLOCK_BYTES, PENDING_BYTES, STATE_BYTES};
+pub use ffi::{StateBytes, BLOCK_BYTES, STATE_BYTES};
 pub use forecast::{forecast, Forecast};
 pub use join::{join, Part};
-pub use pending::Pending;
 
 /// The bytes of a slip.
 pub const SLIP_BYTES: usize = 36;
@@ -120,16 +115,13 @@ pub enum Refusal {
     /// 15: the sums to join are not 16 bytes for each length. Only [`ffi::join`]
     /// is refused so: [`join()`] takes each sum beside its length.
     SumsLength,
-    /// 16: the state's key, sum or length is not the one that the pending edit
-    /// started from.
-    OtherOrigin,
     /// A number, of a refusal or of a verdict, that this wrapper doesn't know,
     /// which only a library of another version answers.
     Unknown(u64),
 }
 
 /// The causes with their numbers and what is wrong.
-const CAUSES: [(Refusal, u64, &str); 16] = [
+const CAUSES: [(Refusal, u64, &str); 15] = [
     (Refusal::KeyOrBlockLength, 1, "key or block not 16 bytes"),
     (Refusal::TooLong, 2, "more than 2^61 - 1 bytes"),
     (Refusal::OutOfFile, 3, "bytes outside the file"),
@@ -153,11 +145,6 @@ const CAUSES: [(Refusal, u64, &str); 16] = [
     ),
     (Refusal::WrongTag, 14, "tag that doesn't fit"),
     (Refusal::SumsLength, 15, "sums not 16 bytes for each length"),
-    (
-        Refusal::OtherOrigin,
-        16,
-        "pending edit that started from another state",
-    ),
 ];
 
 impl Refusal {
@@ -615,7 +602,7 @@ mod tests {
             assert_eq!(back, number);
         }
         assert_eq!(Refusal::of(13), Err(Refusal::TextTooLong));
-        assert_eq!(Refusal::of(17), Err(Refusal::Unknown(17)));
+        assert_eq!(Refusal::of(16), Err(Refusal::Unknown(16)));
         let shown = Refusal::BrokenBlock.to_string();
         assert_eq!(shown, "refused 5: length no multiple of 16");
     }
@@ -683,8 +670,6 @@ mod tests {
         assert_eq!(wrong_tag, Err(Refusal::WrongTag));
         let short = ffi::join(&key, &key[1..], &[16], &mut out, &mut 0);
         assert_eq!(Refusal::of(short), Err(Refusal::SumsLength));
-        let pending = Pending::from_bytes([0; PENDING_BYTES]);
-        assert_eq!(state.commit(&pending), Err(Refusal::OtherOrigin));
     }
 
     /// Only under the right tag comes the text back.
@@ -769,15 +754,6 @@ mod tests {
         assert_eq!(state.prepend(empty), Ok(0));
         assert_eq!(state.drop_front(empty), Ok(0));
         assert_eq!(state.cut_tail(empty), Ok(0));
-        for pending in [
-            state.ask_change(0, empty, empty),
-            state.ask_append(empty),
-            state.ask_prepend(empty),
-            state.ask_drop_front(empty),
-            state.ask_cut_tail(empty),
-        ] {
-            assert_eq!(state.commit(&pending.unwrap()), Ok(0));
-        }
         let nothing = Replayed {
             count: 0,
             offset: 0,

@@ -18,14 +18,6 @@ refused!(CloneOfAState:
     "assert_eq!(state.length(), other.length());"
 );
 
-// A pending edit holds the key, and is wiped where it is.
-refused!(CloneOfAPendingEdit:
-    "let (state, _) = armfile::State::start(&[7; 16], 3, 0, 40, 0xff).unwrap();
-    let pending = state.ask_append(&[1]).unwrap();\n",
-    "let other = &pending;\n" not "let other = pending.clone();\n",
-    "assert_eq!(pending.length(), other.length());"
-);
-
 // A later version may have more verdicts and more causes.
 refused!(MatchOfTheVerdictsOfToday:
     "use armfile::Verdict::{self, *};
@@ -45,7 +37,6 @@ refused!(MatchOfTheRefusalsOfToday:
             KeyOrBlockLength | TooLong | OutOfFile | UnequalPair | BrokenBlock => true,
             NumbersUsed | OutputLength | SlipVersion | EmptyNonce | JournalLength => true,
             RecordKind | RecordPlace | TextTooLong | WrongTag | SumsLength => true,
-            OtherOrigin => true,
             Unknown(_) => false,\n",
     "_ => false,\n" not "",
     "}

@@ -15,17 +15,17 @@ pub fn wipe(bytes: &mut [u8]) {
     compiler_fence(Ordering::SeqCst);
 }
 
-/// Whether a dropped state or pending edit is gone from the stack, in every build:
-/// an optimised one leaves out stores that nothing reads again, so these tests are
-/// of use with `--release` above all.
+/// Whether a dropped state is gone from the stack, in every build: an optimised
+/// one leaves out stores that nothing reads again, so these tests are of use with
+/// `--release` above all.
 #[cfg(test)]
 mod tests {
     use core::hint::black_box;
-    use core::mem::{size_of, ManuallyDrop};
+    use core::mem::ManuallyDrop;
     use std::vec;
     use std::vec::Vec;
 
-    use crate::{Pending, State, PENDING_BYTES, STATE_BYTES};
+    use crate::{State, STATE_BYTES};
 
     /// More than the frames take of whoever looks at the dead stack.
     const GAP: usize = 16 << 10;
@@ -35,10 +35,6 @@ mod tests {
 
     fn begun() -> State {
         State::read(b"looked for later", 5, 6, b"MOVE 10 20 30; GRIP").unwrap()
-    }
-
-    fn asked() -> Pending {
-        begun().ask_append(b"; PARK").unwrap()
     }
 
     /// A state for a place of the caller's. What the library and moves of the
@@ -52,18 +48,6 @@ mod tests {
     #[inline(never)]
     fn put_undropped(place: &mut Option<ManuallyDrop<State>>) {
         *place = Some(ManuallyDrop::new(begun()));
-    }
-
-    /// The same of a pending edit.
-    #[inline(never)]
-    fn put_pending(place: &mut Option<Pending>) {
-        *place = Some(asked());
-    }
-
-    /// And of one that nobody drops.
-    #[inline(never)]
-    fn put_undropped_pending(place: &mut Option<ManuallyDrop<Pending>>) {
-        *place = Some(ManuallyDrop::new(asked()));
     }
 
     /// Overwrites the stack below the caller's frame.
@@ -94,7 +78,7 @@ mod tests {
     /// The place of a value that is no longer held, and the dead stack below and
     /// above it.
     fn left<T>(put: fn(&mut Option<T>)) -> (Vec<u8>, Vec<u8>) {
-        let (mut place, mut around) = (vec![0; size_of::<T>()], vec![0; BELOW + GAP / 2]);
+        let (mut place, mut around) = (vec![0; STATE_BYTES], vec![0; BELOW + GAP / 2]);
         let at = held_far_below(put);
         for (from, copy) in [(at, &mut place), (at - BELOW, &mut around)] {
             for (i, byte) in copy.iter_mut().enumerate() {
@@ -105,23 +89,12 @@ mod tests {
         (place, around)
     }
 
-    /// How many pieces of four bytes of these secrets are among the bytes.
-    fn found(secrets: &[u8], bytes: &[u8]) -> usize {
-        let pieces = secrets.chunks(4);
-        let found = |piece: &&[u8]| bytes.windows(4).any(|window| window == *piece);
-        pieces.filter(found).count()
-    }
-
     /// How many pieces of key, H, I and S are among the bytes.
     fn pieces_in(bytes: &[u8]) -> usize {
-        found(&begun().as_bytes()[..64], bytes)
-    }
-
-    /// How many pieces of the new sum, the key and the old sum are.
-    fn pieces_of_pending_in(bytes: &[u8]) -> usize {
-        let pending = asked();
-        let (new, old) = (&pending.as_bytes()[..16], &pending.as_bytes()[32..64]);
-        found(new, bytes) + found(old, bytes)
+        let state = begun();
+        let pieces = state.as_bytes()[..64].chunks(4);
+        let found = |piece: &&[u8]| bytes.windows(4).any(|window| window == *piece);
+        pieces.filter(found).count()
     }
 
     #[test]
@@ -137,18 +110,5 @@ mod tests {
         let (place, around) = left(put_undropped);
         assert_eq!(place, begun().as_bytes());
         assert_eq!(pieces_in(&around), 16);
-    }
-    #[test]
-    fn a_dropped_pending_edit_is_gone_from_the_stack() {
-        let (place, around) = left(put_pending);
-        assert_eq!(place, [0; PENDING_BYTES]);
-        assert_eq!(pieces_of_pending_in(&around), 0);
-    }
-
-    #[test]
-    fn an_undropped_pending_edit_is_left_on_the_stack() {
-        let (place, around) = left(put_undropped_pending);
-        assert_eq!(place, asked().as_bytes());
-        assert_eq!(pieces_of_pending_in(&around), 12);
     }
 }

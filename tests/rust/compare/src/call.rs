@@ -3,16 +3,15 @@
 
 use std::fmt;
 
-use armfile::{ffi, Forecast, Part, PendingBytes, Refusal, BLOCK_BYTES};
+use armfile::{ffi, Forecast, Part, Refusal, StateBytes, BLOCK_BYTES, STATE_BYTES};
 use reference::journal::Edit;
 use reference::{calls, forecast, join, State};
 
-use crate::ask::{self, Asking};
-use crate::lent::{shown, Lent, Outcome};
+use crate::hex;
 
 /// A call made by the functions of a module, by a join, by a forecast and by the
-/// methods of a state, those of `Asking` among them: but for those two, the
-/// wrapper and the second implementation give them the same names.
+/// methods of a state: but for those two, the wrapper and the second
+/// implementation give them the same names.
 macro_rules! made {
     (
         $call:expr, $module:ident, $join:path, $forecast:path,
@@ -52,8 +51,6 @@ macro_rules! made {
             Call::Prepend { bytes } => $held.prepend(bytes).map(|c| $after.count = c),
             Call::DropFront { bytes } => $held.drop_front(bytes).map(|c| $after.count = c),
             Call::CutTail { bytes } => $held.cut_tail(bytes).map(|c| $after.count = c),
-            Call::Ask { edit } => $held.asked(edit).map(|p| $after.pending = p),
-            Call::Commit { pending } => $held.committed(pending).map(|c| $after.count = c),
             Call::Replay { journal } => {
                 let replayed = $held.replay(journal);
                 ($after.count, $after.offset) = (replayed.count, replayed.offset);
@@ -69,6 +66,22 @@ macro_rules! made {
             Call::Check { slip } => $held.check(slip).map(|v| $after.verdict = v.number()),
         }
     }};
+}
+
+/// A count, a bound, an offset or a length that no call has written yet.
+pub const UNWRITTEN: u64 = 0xeeee_eeee_eeee_eeee;
+
+/// A verdict that no check has written yet.
+pub const UNJUDGED: u8 = 0xee;
+
+/// How many bytes of an input or output the report of a failing case shows.
+const SHOWN: usize = 1_100;
+
+/// The first bytes in hexadecimal.
+fn shown(bytes: &[u8]) -> String {
+    let (first, more) = bytes.split_at(bytes.len().min(SHOWN));
+    let rest = if more.is_empty() { "" } else { ".." };
+    hex(first) + rest
 }
 
 /// A call and its arguments, but for what it is lent for writing.
@@ -134,12 +147,6 @@ pub enum Call {
     CutTail {
         bytes: Vec<u8>,
     },
-    Ask {
-        edit: Edit,
-    },
-    Commit {
-        pending: PendingBytes,
-    },
     Replay {
         journal: Vec<u8>,
     },
@@ -172,6 +179,27 @@ impl Message {
         ]
     }
 }
+
+/// All that calls are lent for writing: the state, the output or slip, the tag
+/// of an encryption, the count, the offset, the verdict, the sum and the length
+/// of a join, and the bound and the greatest length of a forecast. A call is lent
+/// some of them, and must leave the others.
+#[derive(Clone, PartialEq, Eq)]
+pub struct Lent {
+    pub state: StateBytes,
+    pub out: Vec<u8>,
+    pub tag: Vec<u8>,
+    pub count: u64,
+    pub offset: u64,
+    pub verdict: u8,
+    pub sum: [u8; BLOCK_BYTES],
+    pub n: u64,
+    pub bound: u64,
+    pub greatest: u64,
+}
+
+/// An answer, 0 or a refusal number, and what was lent as it is afterwards.
+pub type Outcome = (u64, Lent);
 
 /// The name of a call, its inputs and its numbers.
 pub(crate) type Parts<'a> = (
@@ -239,8 +267,6 @@ impl Call {
             Call::Prepend { bytes } => ("prepend", vec![("bytes", bytes)], vec![]),
             Call::DropFront { bytes } => ("drop_front", vec![("bytes", bytes)], vec![]),
             Call::CutTail { bytes } => ("cut_tail", vec![("bytes", bytes)], vec![]),
-            Call::Ask { edit } => ask::parts(edit),
-            Call::Commit { pending } => ("commit", vec![("pending", pending)], vec![]),
             Call::Replay { journal } => ("replay", vec![("journal", journal)], vec![]),
             Call::Forecast { n, journal } => {
                 ("forecast", vec![("journal", journal)], vec![("n", *n)])
@@ -250,25 +276,17 @@ impl Call {
         }
     }
 
-    /// The edit that this call makes, if it makes one by itself.
-    pub fn as_edit(&self) -> Option<Edit> {
-        Some(match self {
-            Call::Change { p, old, new } => {
-                let (p, old, new) = (*p, old.clone(), new.clone());
-                Edit::Change { p, old, new }
-            }
-            Call::Append { bytes } => Edit::Append(bytes.clone()),
-            Call::Prepend { bytes } => Edit::Prepend(bytes.clone()),
-            Call::DropFront { bytes } => Edit::DropFront(bytes.clone()),
-            Call::CutTail { bytes } => Edit::CutTail(bytes.clone()),
-            _ => return None,
-        })
-    }
-
     /// The record of a journal that holds this edit.
     pub fn record(&self) -> Vec<u8> {
-        let edit = self.as_edit();
-        edit.unwrap_or_else(|| panic!("{self} is no edit")).pack()
+        let edit = match self.clone() {
+            Call::Change { p, old, new } => Edit::Change { p, old, new },
+            Call::Append { bytes } => Edit::Append(bytes),
+            Call::Prepend { bytes } => Edit::Prepend(bytes),
+            Call::DropFront { bytes } => Edit::DropFront(bytes),
+            Call::CutTail { bytes } => Edit::CutTail(bytes),
+            _ => panic!("{self} is no edit"),
+        };
+        edit.pack()
     }
 
     /// The call as a controller in Rust makes it.
@@ -348,5 +366,48 @@ impl fmt::Display for Call {
             write!(f, ", {name} = {} ({} bytes)", shown(bytes), bytes.len())?;
         }
         Ok(())
+    }
+}
+
+impl Lent {
+    /// Nothing of meaning lent yet.
+    pub fn new() -> Lent {
+        Lent {
+            state: [0xee; STATE_BYTES],
+            out: Vec::new(),
+            tag: Vec::new(),
+            count: UNWRITTEN,
+            offset: UNWRITTEN,
+            verdict: UNJUDGED,
+            sum: [0xee; BLOCK_BYTES],
+            n: UNWRITTEN,
+            bound: UNWRITTEN,
+            greatest: UNWRITTEN,
+        }
+    }
+
+    /// The state's fields.
+    pub fn fields(&self) -> State {
+        State::from_state_bytes(&self.state)
+    }
+}
+
+impl Default for Lent {
+    fn default() -> Lent {
+        Lent::new()
+    }
+}
+
+impl fmt::Display for Lent {
+    fn fmt(&self, f: &mut fmt::Formatter) -> fmt::Result {
+        let (state, out, tag) = (hex(&self.state), shown(&self.out), hex(&self.tag));
+        let (count, offset, verdict) = (self.count, self.offset, self.verdict);
+        let (sum, n) = (hex(&self.sum), self.n);
+        let (bound, greatest) = (self.bound, self.greatest);
+        write!(
+            f,
+            "state {state}, out '{out}', tag '{tag}', count {count}, offset {offset}, \
+             verdict {verdict}, sum {sum}, n {n}, bound {bound}, greatest {greatest}"
+        )
     }
 }

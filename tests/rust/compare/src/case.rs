@@ -9,21 +9,21 @@ use std::sync::Mutex;
 use std::time::Instant;
 
 use reference::random::Random;
+use reference::State;
 
-use crate::call::Call;
+use crate::call::{Call, Lent};
 use crate::edge::report_faults;
-use crate::lent::Lent;
-use crate::library::Stand;
+use crate::library::{fields, Stand};
 use crate::say;
 
 /// A part of the comparison: its name, how many cases it has, and a case.
 pub type Part = (&'static str, u64, fn(&mut Case));
 
-/// How many calls were answered by each number, from 0 to 16, and how many
+/// How many calls were answered by each number, from 0 to 15, and how many
 /// checks came to each verdict, from 0 to 3.
 #[derive(Clone, Copy, Default)]
 pub struct Tally {
-    answers: [u64; 17],
+    answers: [u64; 16],
     verdicts: [u64; 4],
 }
 
@@ -102,12 +102,10 @@ impl Case {
 
     /// Makes a call by the library, by its wrapper and by `reference`, holds
     /// them to the same outcome, and leaves in `lent` what it is afterwards.
-    /// Returns 0 or the refusal number. A replay is made with its forecast, and
-    /// an edit with its ask and its commit.
+    /// Returns 0 or the refusal number. A replay is made with its forecast.
     pub fn call(&mut self, call: &Call, lent: &mut Lent) -> u64 {
-        match (call, call.as_edit()) {
-            (Call::Replay { journal }, _) => self.foretold(call, journal, lent),
-            (_, Some(edit)) => self.asked_first(call, edit, lent),
+        match call {
+            Call::Replay { journal } => self.foretold(call, journal, lent),
             _ => self.compared(call, lent),
         }
     }
@@ -132,7 +130,7 @@ impl Case {
         if (answer, &after) != (expected.0, &expected.1) {
             panic!("the wrapper answers {answer}, {after}, unlike the library");
         }
-        after.fields_are_read();
+        fields_are_read(&after);
         self.tally.answers[answer as usize] += 1;
         if let (Call::Check { .. }, 0) = (call, answer) {
             self.tally.verdicts[usize::from(after.verdict)] += 1;
@@ -140,6 +138,27 @@ impl Case {
         *lent = after;
         answer
     }
+}
+
+/// Holds the calls that read a state's fields to the fields themselves. They
+/// refuse no state, so any that a call has left will do.
+fn fields_are_read(lent: &Lent) {
+    let held = armfile::State::from_bytes(lent.state);
+    let read = (
+        held.length(),
+        held.arm(),
+        held.last(),
+        held.sum(),
+        held.hash_key(),
+    );
+    let by_library = fields(&lent.state).unwrap_or_else(|fault| panic!("the library {fault}"));
+    let State {
+        n, arm, last, s, h, ..
+    } = lent.fields();
+    let expected = (n, arm, last, s, h);
+    assert_eq!(read, expected, "length, arm, last, sum and hash key");
+    assert_eq!(by_library, expected, "length, arm, last, sum and hash key");
+    assert_eq!(held.as_bytes(), &lent.state, "the state that was only read");
 }
 
 /// Reports the case where a panic ends it.
@@ -219,7 +238,7 @@ pub fn run(parts: &[Part], least: u64) {
     }
     let (calls, seconds) = (total.calls(), begin.elapsed().as_secs_f64());
     let Tally { answers, verdicts } = total;
-    say(&format!("calls by their answers, 0 to 16: {answers:?}"));
+    say(&format!("calls by their answers, 0 to 15: {answers:?}"));
     say(&format!("checks by their verdicts, 0 to 3: {verdicts:?}"));
     say(&format!(
         "{calls} calls compared with the second implementation, in {seconds:.1} s"

@@ -4,9 +4,8 @@ use armfile::State;
 use reference::forecast::Forecast;
 use reference::journal::Head;
 
-use crate::call::Call;
+use crate::call::{Call, Lent};
 use crate::case::Case;
-use crate::lent::Lent;
 
 impl Case {
     /// Forecasts a journal for a file of n bytes. All three numbers are written,

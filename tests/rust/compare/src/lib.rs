@@ -2,8 +2,6 @@
 //! by both, with all that it is lent compared afterwards.
 //!
 //! - `call`: the calls, as wrapper and second implementation make them.
-//! - `lent`: what calls are lent for writing.
-//! - `ask`: asks and commits, and every edit asked for before it is made.
 //! - `library`: the calls, as the library makes them.
 //! - `guarded`: lent buffers, with canaries or a forbidden page behind them.
 //! - `edge`: memory that ends at a forbidden page, and whether a call touches it.
@@ -19,19 +17,16 @@
 
 #![deny(unsafe_code)]
 
-mod ask;
 pub mod call;
 pub mod case;
 pub mod edge;
 pub mod foretold;
 pub mod guarded;
 pub mod hidden;
-pub mod lent;
 pub mod library;
 
-pub use call::{Call, Message};
+pub use call::{Call, Lent, Message};
 pub use case::Case;
-pub use lent::Lent;
 
 /// Bytes in hexadecimal.
 pub fn hex(bytes: &[u8]) -> String {

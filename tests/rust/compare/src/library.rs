@@ -9,11 +9,9 @@ use std::cell::RefCell;
 use armfile::ffi::c;
 use armfile::{StateBytes, BLOCK_BYTES};
 
-use crate::ask;
-use crate::call::Call;
+use crate::call::{Call, Lent, Outcome};
 use crate::edge::Edge;
 use crate::guarded::{Guarded, WIDTH};
-use crate::lent::{Lent, Outcome};
 
 /// Where the buffers of a call stand.
 #[derive(Clone, Copy)]
@@ -42,8 +40,8 @@ impl Stand {
 const NUMBERS: usize = 5;
 
 /// How many buffers may be written: behind those numbers state, output, tag,
-/// verdict, sum and pending edit, in this order. What is only read follows them.
-const WRITTEN: usize = NUMBERS + 6;
+/// verdict and sum, in this order. What is only read follows them.
+const WRITTEN: usize = NUMBERS + 5;
 
 /// The lengths of a join, of which every other call has none.
 const LENGTHS: usize = WRITTEN;
@@ -89,7 +87,6 @@ impl Call {
             ("tag", &before.tag),
             ("verdict", std::slice::from_ref(&before.verdict)),
             ("sum", &before.sum),
-            ("pending", &before.pending),
             ("lengths", &lengths),
         ];
         lent.extend(inputs);
@@ -118,7 +115,7 @@ impl Call {
     /// each, the other inputs in the order of `parts`.
     unsafe fn answered(&self, lent: &[(*mut u8, usize)]) -> u64 {
         let [count, offset, n, bound, greatest] = std::array::from_fn(|i| lent[i].0.cast::<u64>());
-        let [(state, _), (out, room), tag, (verdict, _), (sum, _), (pending, _)] =
+        let [(state, _), (out, room), tag, (verdict, _), (sum, _)] =
             std::array::from_fn(|i| lent[NUMBERS + i]);
         let at = |i: usize| lent[OTHERS + i].0.cast_const();
         let len = |i: usize| lent[OTHERS + i].1;
@@ -151,8 +148,6 @@ impl Call {
             Call::Prepend { .. } => c::armfile_prepend(state, at(0), len(0), count),
             Call::DropFront { .. } => c::armfile_drop_front(state, at(0), len(0), count),
             Call::CutTail { .. } => c::armfile_cut_tail(state, at(0), len(0), count),
-            Call::Ask { edit } => ask::answered(edit, state, pending, &lent[OTHERS..]),
-            Call::Commit { .. } => c::armfile_commit(state, at(0), count),
             Call::Replay { .. } => c::armfile_replay(state, at(0), len(0), count, offset),
             Call::Forecast { n, .. } => {
                 c::armfile_forecast(*n, at(0), len(0), bound, greatest, offset)
@@ -198,7 +193,6 @@ fn left(guarded: &mut [Guarded], inputs: &[(&'static str, &[u8])]) -> Result<Len
         tag: others[2].after()?.to_vec(),
         verdict: others[3].after()?[0],
         sum: others[4].after()?.try_into().expect("16 bytes"),
-        pending: others[5].after()?.try_into().expect("72 bytes"),
     })
 }
 

@@ -9,7 +9,7 @@
 use std::sync::OnceLock;
 
 use armfile::ffi::c;
-use armfile::{MAX_BYTES, MAX_JOURNAL_BYTES, MAX_TEXT_BYTES, PENDING_BYTES, SLIP_BYTES};
+use armfile::{MAX_BYTES, MAX_JOURNAL_BYTES, MAX_TEXT_BYTES, SLIP_BYTES};
 use compare::edge::{faults, Edge};
 use reference::calls::{block_refusal, gcm_refusal, ghash_refusal, gmac_refusal};
 use reference::join;
@@ -20,9 +20,6 @@ use reference::refusal::{
     refuse, too_long, BAD_BUFFER, BAD_VERSION, NOT_SIXTEEN, TOO_LONG, UNEQUAL, USED_UP, WRONG_TAG,
 };
 use reference::State;
-
-#[path = "claimed/asks.rs"]
-mod asks;
 
 /// Lengths of inputs: true ones, up to `TRUE`, and claimed ones. The header
 /// asks for less than 2^63.
@@ -116,7 +113,6 @@ struct Lent {
     bound: u64,
     greatest: u64,
     verdict: u8,
-    pending: [u8; PENDING_BYTES],
 }
 
 impl Lent {
@@ -136,7 +132,6 @@ impl Lent {
             bound: 0xeeee,
             greatest: 0xeeee,
             verdict: 0xee,
-            pending: [0xee; PENDING_BYTES],
         }
     }
 

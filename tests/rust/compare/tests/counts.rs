@@ -68,7 +68,6 @@ fn counted(n: usize) {
     };
     assert_eq!(read.as_bytes(), &expected.state_bytes(), "a file");
     replayed(&key, &bytes, &expected);
-    committed(&key, &bytes, &expected);
     joined(&mut random, n / 16);
 }
 
@@ -109,15 +108,6 @@ fn replayed(key: &[u8], bytes: &[u8], expected: &state::State) {
     assert_eq!(held.forecast(&journal), told);
     assert_eq!(held.replay(&journal), outcome);
     assert_eq!(held.as_bytes(), &expected.state_bytes(), "a journal");
-}
-
-/// An append of such bytes to an empty file, asked for and committed.
-fn committed(key: &[u8], bytes: &[u8], expected: &state::State) {
-    let (mut held, _) = State::start(key, 5, 6, 0, 0xff).expect("a state");
-    let pending = held.ask_append(bytes).expect("a pending edit");
-    let m = block_count(expected.n);
-    assert_eq!(held.commit(&pending), Ok(m + seek_steps(m) + 1));
-    assert_eq!(held.as_bytes(), &expected.state_bytes(), "a commit");
 }
 
 /// So many parts of one block each, their sums zero but for the first and the

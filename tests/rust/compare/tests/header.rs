@@ -6,7 +6,7 @@
 use std::collections::BTreeMap;
 
 use armfile::Refusal::{self, *};
-use reference::{pending, refusal, slip, state};
+use reference::{refusal, slip, state};
 
 /// The header's numbers by their names, without `ARMFILE_`.
 fn numbers() -> BTreeMap<&'static str, u64> {
@@ -34,7 +34,7 @@ fn number(text: &str) -> u64 {
 
 /// The refusals, as the header, its wrapper and the second implementation have
 /// them.
-const REFUSALS: [(&str, Refusal, u64); 16] = [
+const REFUSALS: [(&str, Refusal, u64); 15] = [
     (
         "KEY_OR_BLOCK_LENGTH",
         KeyOrBlockLength,
@@ -54,7 +54,6 @@ const REFUSALS: [(&str, Refusal, u64); 16] = [
     ("TEXT_TOO_LONG", TextTooLong, refusal::TEXT_TOO_LONG),
     ("WRONG_TAG", WrongTag, refusal::WRONG_TAG),
     ("SUMS_LENGTH", SumsLength, refusal::BAD_SUMS),
-    ("OTHER_ORIGIN", OtherOrigin, refusal::OTHER_ORIGIN),
 ];
 
 /// So are these the verdicts.
@@ -80,7 +79,6 @@ fn names_and_numbers() {
         ("OK", 0),
         ("STATE_BYTES", armfile::STATE_BYTES as u64),
         ("SLIP_BYTES", armfile::SLIP_BYTES as u64),
-        ("PENDING_BYTES", armfile::PENDING_BYTES as u64),
         ("BLOCK_BYTES", armfile::BLOCK_BYTES as u64),
         ("MAX_BYTES", armfile::MAX_BYTES),
         ("MAX_JOURNAL_BYTES", armfile::MAX_JOURNAL_BYTES),
@@ -98,7 +96,6 @@ fn names_and_numbers() {
     assert_eq!(numbers(), expected);
     assert_eq!(armfile::STATE_BYTES, state::STATE_BYTES);
     assert_eq!(armfile::SLIP_BYTES, slip::SLIP_BYTES);
-    assert_eq!(armfile::PENDING_BYTES, pending::PENDING_BYTES);
     assert_eq!(armfile::MAX_BYTES, refusal::MAX_BYTES);
     assert_eq!(armfile::MAX_JOURNAL_BYTES, refusal::MAX_JOURNAL_BYTES);
     assert_eq!(armfile::MAX_TEXT_BYTES, refusal::MAX_TEXT_BYTES);

@@ -8,7 +8,6 @@ use std::process::{Command, Stdio};
 use reference::blank;
 use reference::forecast;
 use reference::journal::Edit;
-use reference::list::ListMachine;
 use reference::machine::Machine;
 use reference::Verdict::{self, Ahead, Current, NotGenuine, Stale};
 
@@ -107,35 +106,11 @@ fn replayed(text: &mut String, machine: &mut Machine) {
     replay(text, "replay the whole journal", machine, count, stop);
 }
 
-/// The change of the format: asked for, and the card write fails; asked for
-/// again, written and committed; and committed a second time.
-fn format_changed(text: &mut String, machine: &mut Machine, tuesday: &[u8]) {
-    let change = Edit::Change {
-        p: 56,
-        old: b"gripper B".to_vec(),
-        new: b"gripper C".to_vec(),
-    };
-    let mut edited = machine.clone();
-    let count = change.by_machine(&mut edited).unwrap();
-    let mut list = ListMachine::begin(machine.clone());
-    // An ask tells what the edit would give, and moves nothing.
-    assert_eq!(list.ask(&change), Ok(()));
-    step(text, "ask to change the format", &edited, count);
-    let failed = "check Tuesday's slip after the write failed";
-    check(text, failed, &list.machine, tuesday, Current);
-    assert_eq!(list.ask(&change), Ok(()));
-    step(text, "ask again", &edited, count);
-    assert_eq!(list.commit(1), Some(Ok(count)));
-    step(text, "commit after the write", &list.machine, count);
-    let again = list.commit(1).unwrap().unwrap_err();
-    text.push_str(&format!("commit a second time: refused {again}\n"));
-    *machine = list.machine;
-}
-
 /// Sealed, changed and sealed, changed back and sealed. Returns the last slip.
 fn sealed(text: &mut String, machine: &mut Machine) -> [u8; 36] {
     let tuesday = seal(text, "seal on Tuesday", machine);
-    format_changed(text, machine, &tuesday);
+    let count = machine.change(56, b"gripper B", b"gripper C").unwrap();
+    step(text, "change the format", machine, count);
     seal(text, "seal on Wednesday", machine);
     let count = machine.change(56, b"gripper C", b"gripper B").unwrap();
     step(text, "undo the change", machine, count);

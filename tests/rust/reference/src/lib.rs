@@ -1,6 +1,6 @@
 //! A plain second implementation of the arm file seal of document 01, and of
 //! document 02's edit journal, Q-1, GCM, Q-2, fill bytes, Q-4, verdicts, Q-5,
-//! joins of parts, Q-6, forecasts, Q-7, and asks and commits, Q-8.
+//! joins of parts, Q-6, and forecasts, Q-7.
 //!
 //! FIPS 197 decides for AES, NIST SP 800-38D for the field, GHASH, GMAC and
 //! GCM, and the two documents for everything else. Clear code is preferred to
@@ -18,13 +18,11 @@
 //! - `state`: the controller, by document 01's formulas.
 //! - `journal`: the records of a journal, and their replay.
 //! - `forecast`: what a replay will do, from the heads of the records alone.
-//! - `pending`: edits asked for, and committed.
 //! - `machine`: the plain machine, from the bytes alone.
-//! - `list`: the plain machine of a list with asks and commits.
 //! - `calls`: the other calls without a state on slices, with their refusals.
 //! - `refusal`: the causes and their numbers.
 //! - `random`: a small repeatable random generator for tests, and what tests of
-//!   edits, of asks, of forecasts and of joins choose with it.
+//!   edits, of forecasts and of joins choose with it.
 
 pub mod aes;
 pub mod bits;
@@ -36,17 +34,13 @@ pub mod gcm;
 pub mod ghash;
 pub mod join;
 pub mod journal;
-pub mod list;
 pub mod machine;
-pub mod pending;
 pub mod random;
 pub mod refusal;
 pub mod slip;
 pub mod state;
 pub mod tables;
 
-pub use list::ListMachine;
 pub use machine::Machine;
-pub use pending::Pending;
 pub use slip::{Slip, Verdict};
 pub use state::State;

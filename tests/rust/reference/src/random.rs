@@ -1,8 +1,8 @@
 //! A small repeatable random generator for tests, splitmix64, and the bytes
-//! that tests of edits, the edits that tests of asks, the heads that tests of
-//! forecasts, and the lengths that tests of joins choose with it.
+//! that tests of edits, the heads that tests of forecasts, and the lengths that
+//! tests of joins choose with it.
 
-use crate::journal::{Edit, Head, CHANGE, DROP_FRONT, PREPEND};
+use crate::journal::{Head, CHANGE, DROP_FRONT, PREPEND};
 
 /// The binary digits of a part's block count: so few that its bytes can be had.
 pub const FEW: u64 = 3;
@@ -84,32 +84,6 @@ impl Random {
             count += self.below(16);
         }
         self.bytes(count as usize)
-    }
-
-    /// An edit of a file, now and then a refused one. Its old or removed bytes
-    /// are the file's where `truly`, otherwise any.
-    pub fn some_edit(&mut self, file: &[u8], truly: bool) -> Edit {
-        let held = if truly { file } else { &[] };
-        let (mut bytes, mut blocks) = (self.some_bytes(50), self.some_blocks());
-        match self.below(5) {
-            0 => {
-                let p = self.below(file.len() as u64 + 3);
-                let length = bytes.len() + usize::from(self.once_in(10));
-                copy_front(held.get(p as usize..).unwrap_or_default(), &mut bytes);
-                let (old, new) = (bytes, self.bytes(length));
-                Edit::Change { p, old, new }
-            }
-            1 => Edit::Append(bytes),
-            2 => Edit::Prepend(blocks),
-            3 => {
-                copy_front(held, &mut blocks);
-                Edit::DropFront(blocks)
-            }
-            _ => {
-                copy_tail(held, &mut bytes);
-                Edit::CutTail(bytes)
-            }
-        }
     }
 
     /// Heads of up to so many records that a file of n bytes accepts, with lengths

@@ -1,5 +1,5 @@
-//! Document 01, "Causes and their numbers", and those of document 02, Q-1, Q-2,
-//!
+//! Document 01, "Causes and their numbers", and those of document 02, Q-1, Q-2
+//! and Q-6.
 
 /// Key, hash key or block not 16 bytes.
 pub const NOT_SIXTEEN: u64 = 1;
@@ -33,8 +33,6 @@ pub const TEXT_TOO_LONG: u64 = 13;
 pub const WRONG_TAG: u64 = 14;
 /// Sums' byte length not 16 times the number of lengths.
 pub const BAD_SUMS: u64 = 15;
-/// State's key, sum or length not the one that a pending edit started from.
-pub const OTHER_ORIGIN: u64 = 16;
 
 /// The largest byte length of a file, of A, of C and of a nonce.
 pub const MAX_BYTES: u64 = (1 << 61) - 1;

@@ -217,7 +217,7 @@ impl State {
     }
 
     /// The cause that stands before all others in every call with a state.
-    pub(crate) fn passes_the_limit(&self) -> (bool, u64) {
+    fn passes_the_limit(&self) -> (bool, u64) {
         (too_long(self.n.into()), TOO_LONG)
     }
 

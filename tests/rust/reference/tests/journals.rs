@@ -133,6 +133,16 @@ fn some_edit(random: &mut Random, file: &[u8]) -> Edit {
     }
 }
 
+fn by_machine(edit: &Edit, machine: &mut Machine) -> Result<u64, u64> {
+    match edit {
+        Edit::Change { p, old, new } => machine.change(*p, old, new),
+        Edit::Append(bytes) => machine.append(bytes),
+        Edit::Prepend(bytes) => machine.prepend(bytes),
+        Edit::DropFront(bytes) => machine.drop_front(bytes),
+        Edit::CutTail(bytes) => machine.cut_tail(bytes),
+    }
+}
+
 /// What Q-7 sums up of an accepted edit, between files of these lengths: the
 /// blocks that its bytes touch, gathered byte by byte, and twice the binary
 /// digits of the larger block count.
@@ -162,7 +172,7 @@ fn some_journal(random: &mut Random, machine: &mut Machine) -> (Vec<u8>, Replaye
         let edit = some_edit(random, &machine.bytes);
         let before = machine.n();
         journal.extend(edit.pack());
-        match edit.by_machine(machine) {
+        match by_machine(&edit, machine) {
             Ok(count) => replayed.count += count,
             Err(number) => {
                 replayed.refusal = Some(number);

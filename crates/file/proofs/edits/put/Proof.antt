@@ -4,20 +4,20 @@ use Rattle.file.proofs.EditReturns.{put_refused, put_done}
 use Rattle.file.proofs.edits.put.Statement.{statement}
 use Rattle.file.proofs.edits.put.Tie as tie
 
-enum-known-reckoned : tie.Need-enum-known-reckoned
-enum-known-reckoned c = search rules
+enum-known-asked : tie.Need-enum-known-asked
+enum-known-asked c = search rules
 
-enum-known-reckoned-2 : tie.Need-enum-known-reckoned-2
-enum-known-reckoned-2 c = search rules
+enum-known-asked-2 : tie.Need-enum-known-asked-2
+enum-known-asked-2 c = search rules
 
 moved-to-requires : tie.Need-moved-to-requires
 moved-to-requires c κs = search rules
 
 returns : tie.Need-returns
-returns c = put_refused _ c.before.reckoned.given.1
+returns c = put_refused _ c.before.asked.given.1
 
 returns-2 : tie.Need-returns-2
-returns-2 c = put_done _ c.before.before.before.before.reckoned2.given.1 c.moved_to.ensures
+returns-2 c = put_done _ c.before.before.before.before.asked2.given.1 c.moved_to.ensures
 
 pub put_spec : {M : Type 1} → statement M
-put_spec = tie.close (tie.spec enum-known-reckoned enum-known-reckoned-2 moved-to-requires returns returns-2)
+put_spec = tie.close (tie.spec enum-known-asked enum-known-asked-2 moved-to-requires returns returns-2)

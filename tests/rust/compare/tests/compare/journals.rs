@@ -1,7 +1,7 @@
 //! Replay of journals, document 02, Q-1. Each is forecast first, Q-7.
 
 use armfile::MAX_BYTES;
-use compare::lent::UNWRITTEN;
+use compare::call::UNWRITTEN;
 use compare::{Call, Case, Lent};
 use reference::journal::{Head, CHANGE, HEAD_BYTES};
 use reference::Machine;

@@ -1,7 +1,7 @@
 //! Lists of random calls, refused ones and journals among them.
 
 use armfile::{MAX_BYTES, SLIP_BYTES};
-use compare::lent::UNJUDGED;
+use compare::call::UNJUDGED;
 use compare::{Call, Case, Lent};
 use reference::random::{copy_front, copy_tail, Random};
 use reference::Machine;

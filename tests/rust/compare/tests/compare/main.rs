@@ -3,12 +3,9 @@
 
 #![forbid(unsafe_code)]
 
-mod asked_list;
-mod asks;
 mod blanks;
 mod blocks;
 mod choose;
-mod commits;
 mod edits;
 mod forecasts;
 mod gcm;
@@ -110,28 +107,6 @@ const PARTS: &[Part] = &[
     ("forecasts of any length", 200, forecasts::of_any_length),
     ("forecasts, other bodies", 500, forecasts::of_other_bodies),
     ("a forecast of many records", 1, forecasts::of_many_records),
-    (
-        "pending edits with one bit turned",
-        20,
-        asks::one_bit_turned,
-    ),
-    (
-        "commits to a state with one bit turned",
-        4,
-        asks::one_bit_of_the_state_turned,
-    ),
-    ("commits of any bytes", 8_000, asks::of_any_bytes),
-    ("commits, sets of causes", 320, asks::sets_of_causes),
-    ("commits under another key", 50, asks::under_another_key),
-    ("lists of true asks and commits", 400, commits::true_lists),
-    (
-        "lists of asks and commits true or not",
-        400,
-        commits::lists_true_or_not,
-    ),
-    ("lists of every end of a commit", 1, commits::every_end),
-    ("commits to a file of one sum", 100, commits::of_one_sum),
-    ("several asks of one state", 300, asks::several_of_one_state),
 ];
 
 fn main() {

@@ -1,7 +1,7 @@
 //! Seal and check.
 
 use armfile::{MAX_BYTES, SLIP_BYTES};
-use compare::lent::UNJUDGED;
+use compare::call::UNJUDGED;
 use compare::{Call, Case, Lent};
 use reference::Verdict::{self, Ahead, Current, NotGenuine, Stale};
 use reference::{slip, Machine, Slip, State};
