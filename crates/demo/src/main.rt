@@ -3,6 +3,8 @@
 // Tuesday's card has the right bytes again on Friday; its slip is stale. After a restart the card is read once, and slips are checked. Each step prints
 // the file's length, the running sum and the count of products, or the forecast, or the slip, or the verdict, or a refusal's number. After a write that
 // failed nothing more is printed, and that is told on standard error.
+#![tactic(auto)]
+
 use file::{Answer, Answered, Cause, Checked, Outcome, SLIP_BYTES, State, Verdict};
 use journal::{Forecasted, Replayed, forecast, replay};
 use libc::{STDERR_FILENO, STDOUT_FILENO};
