@@ -1,11 +1,11 @@
 -- The carry-less product and square of halves from integer products of planes: a half is the sum of its planes (`planes`), Karatsuba's rule is
 -- applied twice (`mixed-⊗`), and what is put together from mixtures is additive in them (`unmixed-added`). Rests on HolesLaws.
 use mathlib.Core.Path.{◌≡◌, refl, sym, ap, ap₂, ◌∙◌}
-use Prim.Native.Nat.{ℕ, zero, suc, ◌+◌, ◌*◌, ◌/◌, ◌%◌, ◌^◌, ◌≤◌, ◌<◌}
+use Prim.Native.Nat.{ℕ, zero, suc, ◌+◌, ◌*◌, ◌/◌, ◌%◌, ◌^◌, ◌<◌}
 use native.Mathlib.Nat.{mod-lt, mod-eq_of_lt, mod-one, lt_of_lt_of_le, pow-le-pow_right, zero-lt-suc, pow-suc}
 use native.Mathlib.Omega.{arith}
 use lib.Arith.{mod-mul}
-use lib.Pow.{pow_pos, shr-shr}
+use lib.Pow.{shr-shr}
 use Rattle.clmul.specs.Xor.{xor}
 use Rattle.clmul.specs.Carryless.{◌⊗◌}
 use Rattle.clmul.specs.declared.halves.Mixtures.{Mixtures}

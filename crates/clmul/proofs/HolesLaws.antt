@@ -3,14 +3,14 @@
 -- bits out. Rests on Products.
 use mathlib.Core.Path.{◌≡◌, refl, sym, ap, ap₂, ◌∙◌}
 use Prim.Native.Nat.{ℕ, zero, suc, ◌+◌, ◌*◌, ◌/◌, ◌%◌, ◌^◌, ◌≤◌, ◌<◌}
-use native.Mathlib.Nat.{mod-lt, zero-mul, one-mul, mul_assoc, mul_comm, zero-lt-suc, add-zero, mul-mod_left, mul-div_cancel, zero-div}
+use native.Mathlib.Nat.{mod-lt, zero-mul, one-mul, zero-lt-suc, add-zero, mul-mod_left, mul-div_cancel, zero-div}
 use native.Mathlib.Nat.{le_refl, lt_of_lt_of_le, not-suc-le-zero, pow-le-pow_right, pow-suc}
 use native.Mathlib.Omega.{arith}
 use lib.Arith.{digits_lt, digits_div, digits_mod}
 use lib.Pow.{pow_pos, split, mod-mod-pow}
 use lib.Bits as B
 use lib.Dec.{lit<}
-use Rattle.clmul.specs.Xor.{xor, only}
+use Rattle.clmul.specs.Xor.{xor}
 use Rattle.clmul.specs.Carryless.{◌⊗◌}
 use Rattle.clmul.specs.Halves.{plane}
 use Rattle.clmul.proofs.Xor.{xor_zero_l, xor_zero_r, xor-odd, xor_shr, xor-split, xor-add, xor_self, odd-lt, digit}

@@ -6,6 +6,7 @@ pub mod Recurrence
 pub mod Products
 pub mod HolesLaws
 pub mod HalfProducts
+pub mod Masks
 pub mod WordLaws
 pub mod Columns
 pub mod Totals

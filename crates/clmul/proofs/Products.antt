@@ -1,13 +1,12 @@
 -- The carry-less product: additive in each argument, moved with each argument, one, commutative, and what follows of numbers that are cut in
 -- two: Karatsuba's rule, and the square. Rests on Xor and Basis.
 use mathlib.Core.Path.{◌≡◌, refl, sym, ap, ap₂, ◌∙◌}
-use Prim.Native.Nat.{ℕ, zero, suc, ◌+◌, ◌*◌, ◌/◌, ◌%◌, ◌^◌, ◌≤◌, ◌<◌}
-use native.Mathlib.Nat.{mod-lt, mod-one, mod-eq_of_lt, zero-mul, one-mul, mul-one, zero-div, div-one, mul_comm, mul_assoc, add-zero, pow-suc}
-use native.Mathlib.Nat.{div-eq_of_lt, lt_of_le_of_lt, lt_of_lt_of_le, pow-le-pow_right, zero-lt-suc, mul-mod_left, mul-div_cancel}
+use Prim.Native.Nat.{ℕ, zero, suc, ◌+◌, ◌*◌, ◌/◌, ◌%◌, ◌^◌, ◌<◌}
+use native.Mathlib.Nat.{mod-lt, mod-one, mod-eq_of_lt, zero-mul, one-mul, mul-one, zero-div, div-one, mul_comm, mul_assoc, pow-suc}
+use native.Mathlib.Nat.{div-eq_of_lt, lt_of_le_of_lt, lt_of_lt_of_le, pow-le-pow_right, zero-lt-suc, mul-mod_left}
 use native.Mathlib.Numerals.{one-add}
 use native.Mathlib.Omega.{arith}
-use lib.Pow.{pow_pos, pow-add, pow-lt, shl_lt, shl-shr, shr-shr, shr_le, split, mod-pow-add}
-use lib.Dec.{lit<}
+use lib.Pow.{pow_pos, pow-add, pow-lt, shl-shr, shr-shr, split, mod-pow-add}
 use Rattle.clmul.specs.Xor.{xor, only}
 use Rattle.clmul.specs.Carryless.{carryless, ◌⊗◌}
 use Rattle.clmul.specs.Halves.{karatsuba}

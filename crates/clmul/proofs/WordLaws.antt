@@ -1,33 +1,26 @@
 -- Words as code works on them: masks, shifts and records of words, and the numbers they stand for. Rests on HalfProducts and Products.
-use mathlib.Core.Path.{◌≡◌, refl, sym, ap, ap₂, ◌∙◌}
-use Prim.Native.Nat.{ℕ, zero, suc, ◌+◌, ◌*◌, ◌/◌, ◌%◌, ◌^◌, ◌≤◌, ◌<◌}
+use mathlib.Core.Path.{◌≡◌, sym, ap, ap₂, ◌∙◌}
+use Prim.Native.Nat.{ℕ, ◌+◌, ◌*◌, ◌/◌, ◌%◌, ◌^◌, ◌≤◌, ◌<◌}
 use native.Mathlib.Nat.{lt_of_lt_of_le, pow-le-pow_right, zero-lt-suc}
 use native.Mathlib.Nat.{mod-lt, mod-eq_of_lt, mul-mod_left, add-zero, lt_of_le_of_lt, le_of_lt, mul-le-mul_left}
 use native.Mathlib.Omega.{arith}
 use lib.Bits.{bit_and, bit_xor, and_mask}
 use lib.Arith.{digits_lt}
-use lib.Pow.{pow_pos, pow-add, shl_lt, shl_exact, shl-shr, shr-shr, shr_lt, split, high, low, mod-pow-add}
+use lib.Pow.{pow_pos, pow-add, shl_lt, shl_exact, shl-shr, shr_lt, split, high, low, mod-pow-add}
 use lib.Dec.{lit<}
 use Rattle.clmul.specs.Xor.{xor}
 use Rattle.clmul.specs.Carryless.{◌⊗◌}
 use Rattle.clmul.specs.declared.halves.Mixtures.{Mixtures}
 use Rattle.clmul.specs.declared.karatsuba.Double.{Double}
-use Rattle.clmul.specs.declared.karatsuba.Wide.{Wide}
 use Rattle.clmul.specs.Halves.{plane, karatsuba, mixtures_of, added_to, unmixed}
 use Rattle.clmul.specs.Tables.{double, wide, part}
 use Rattle.clmul.proofs.Xor.{xor_zero_l, xor_lt, xor-split, xor_low, xor-add}
 use Rattle.clmul.proofs.Products.{karatsuba-⊗, part_⊗, square-xor, square-shl}
 use Rattle.clmul.proofs.HolesLaws.{ones, and-ones, plane-xor, plane-le, plane-lt, plane-⊗}
 use Rattle.clmul.proofs.HalfProducts.{karatsuba_cong, unmixed-added, unmixed-none, none, half-square}
+use Rattle.clmul.proofs.Masks.{eight, fifteen}
 
 -- ---- masks
-
--- the mask of eight digits and that of fifteen, as code writes them
-abbrev eight : ℕ
-eight = 0x11111111
-
-abbrev fifteen : ℕ
-fifteen = 0x0111111111111111
 
 and-eight : (v : ℕ) → bit_and v eight ≡ plane 8 v
 unfolding ones

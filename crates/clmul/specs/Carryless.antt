@@ -1,6 +1,6 @@
 -- Carry-less products: products of polynomials whose coefficients are 0 and 1, written as the bits of numbers. SP 800-38D (6.3) has the
 -- product only together with its reduction; without it, it is the product that is taken before the remainder.
-use Rattle.std.specs.Prelude.{ℕ, zero, suc, ◌+◌, ◌*◌, ◌/◌, ◌%◌, ◌^◌}
+use Rattle.std.specs.Prelude.{ℕ, zero, suc, ◌*◌, ◌/◌, ◌%◌, ◌^◌}
 use Rattle.clmul.specs.Xor.{xor, only}
 
 infixl 70 ◌⊗◌

@@ -1,6 +1,5 @@
 -- `clmul::halves::added` meets its contract: each of the nine products is added (`WordLaws`).
 use Rattle.clmul.proofs.WordLaws.{added-words}
-use borrow.Author.Rules.{rules}
 use Rattle.clmul.proofs.halves.added.Goals as goal
 
 pub returns : goal.returns

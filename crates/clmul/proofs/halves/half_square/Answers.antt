@@ -1,6 +1,5 @@
 -- `clmul::halves::half_square` meets its contract: the squares of the planes, put together (`WordLaws`).
 use Rattle.clmul.proofs.WordLaws.{square-words}
-use borrow.Author.Rules.{rules}
 use Rattle.clmul.proofs.halves.half_square.Goals as goal
 
 pub returns : goal.returns

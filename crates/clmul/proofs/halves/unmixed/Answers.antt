@@ -1,6 +1,5 @@
 -- `clmul::halves::unmixed` meets its contract: Karatsuba's rule thrice on planes and once on pairs of them (`WordLaws`).
 use Rattle.clmul.proofs.WordLaws.{joined-planes-lt, unmixed-words}
-use borrow.Author.Rules.{rules}
 use Rattle.clmul.proofs.halves.unmixed.Goals as goal
 
 pub joined_pairs-requires : goal.joined_pairs-requires

@@ -1,7 +1,6 @@
 -- `clmul::karatsuba::product` meets its contract: Karatsuba's rule on words (`WordLaws`).
 use native.Mathlib.Omega.{arith}
 use Rattle.clmul.proofs.WordLaws.{product-⊗}
-use borrow.Author.Rules.{rules}
 use Rattle.clmul.proofs.karatsuba.product.Goals as goal
 
 pub returns : goal.returns

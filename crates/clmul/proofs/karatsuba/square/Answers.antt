@@ -1,7 +1,6 @@
 -- `clmul::karatsuba::square` meets its contract: the squares of the four halves side by side (`WordLaws`).
 use native.Mathlib.Omega.{arith}
 use Rattle.clmul.proofs.WordLaws.{square-⊗}
-use borrow.Author.Rules.{rules}
 use Rattle.clmul.proofs.karatsuba.square.Goals as goal
 
 pub returns : goal.returns

@@ -1,7 +1,6 @@
 -- `clmul::karatsuba::word_product` meets its contract: Karatsuba's rule on halves (`WordLaws`).
 use native.Mathlib.Omega.{arith}
 use Rattle.clmul.proofs.WordLaws.{word-⊗}
-use borrow.Author.Rules.{rules}
 use Rattle.clmul.proofs.karatsuba.word_product.Goals as goal
 
 pub returns : goal.returns

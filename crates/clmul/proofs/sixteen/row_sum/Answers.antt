@@ -1,6 +1,5 @@
 -- `clmul::sixteen::row_sum` meets its contract. The loop's invariant: the mixtures are those of the sum of the first n products. Rests on RowLaws.
-use Rattle.clmul.proofs.RowLaws.{Summed, summed_start, summed_next, summed_done}
-use Prim.Native.Nat.{◌-◌}
+use Rattle.clmul.proofs.RowLaws.{summed_start, summed_next, summed_done}
 use native.Mathlib.Omega.{arith}
 use Rattle.clmul.proofs.sixteen.row_sum.Goals as goal
 

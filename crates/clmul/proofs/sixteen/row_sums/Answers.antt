@@ -1,6 +1,5 @@
 -- `clmul::sixteen::row_sums` meets its contract. The loop's invariant: the first w places hold the sums of the first w rows. Rests on RowLaws.
-use Rattle.clmul.proofs.RowLaws.{RowSums, row-sums_start, row-sums_next, row-sums_done}
-use Prim.Native.Nat.{◌-◌}
+use Rattle.clmul.proofs.RowLaws.{row-sums_start, row-sums_next, row-sums_done}
 use mathlib.Core.Path.{refl}
 use native.Mathlib.Omega.{arith}
 use Rattle.clmul.proofs.sixteen.row_sums.Goals as goal

@@ -1,5 +1,4 @@
 -- `clmul::sixteen::sum_of_products` meets its contract: Karatsuba's rule on the sums of the rows, and on what that makes. Rests on RowLaws.
-use borrow.Author.Rules.{rules}
 use Rattle.clmul.proofs.RowLaws.{products_total}
 use Rattle.clmul.proofs.sixteen.sum_of_products.Goals as goal
 

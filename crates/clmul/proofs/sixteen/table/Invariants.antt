@@ -1,11 +1,8 @@
 -- `clmul::sixteen::table` meets its contract. The loop's invariant: the first i columns hold the mixtures of the first i numbers. Rests on RowLaws.
-use Rattle.clmul.proofs.Columns.{Columns, columns_start, down}
-use Rattle.clmul.proofs.RowLaws.{mixture, table_next, table_done}
-use Rattle.clmul.specs.Tables.{rows}
+use Rattle.clmul.proofs.Columns.{Columns}
+use Rattle.clmul.proofs.RowLaws.{mixture}
 use lib.ListN.{get_or}
 use Prim.Native.Nat.{◌-◌, ◌≤◌}
-use mathlib.Core.Path.{refl}
-use native.Mathlib.Omega.{arith}
 use Rattle.clmul.proofs.sixteen.table.Given as goal
 
 abbrev pub invariant-loop-i : goal.invariant-loop-i

@@ -1,6 +1,5 @@
 -- `planes::circuits::substituted` meets its contract. The substitution box is the affine step of the inverse.
 use mathlib.Core.Path.{ap, ◌∙◌}
-use borrow.Author.Rules.{rules}
 use Rattle.planes.specs.Substitution.{affine, sbox}
 use Rattle.planes.proofs.circuits.substituted.Goals as goal
 

@@ -1,5 +1,4 @@
 -- `planes::moves::rotated` meets its contract: the bits of all eight planes move in the same way, as `rotate` ensures.
-use borrow.Author.Rules.{rules}
 use Rattle.planes.proofs.BitMoves.{shows-moved}
 use Rattle.planes.proofs.moves.rotated.Goals as goal
 

@@ -1,5 +1,4 @@
 -- `planes::moves::slid` meets its contract: the bits of all eight planes move in the same way, as `slide` ensures.
-use borrow.Author.Rules.{rules}
 use Rattle.planes.proofs.BitMoves.{shows-moved}
 use Rattle.planes.proofs.moves.slid.Goals as goal
 

@@ -1,9 +1,7 @@
 -- `planes::packing::block_of` meets its contract. The loop's invariant: the first i bytes are those of the rows' words.
-use Rattle.planes.proofs.Tables.{Filled, filled_start, filled_next, filled_done}
+use Rattle.planes.proofs.Tables.{Filled}
 use Rattle.planes.specs.Lanes.{byte_of}
-use Rattle.planes.specs.Tables.{at, tab}
-use native.Mathlib.Omega.{arith}
-use mathlib.Core.Path.{refl}
+use Rattle.planes.specs.Tables.{at}
 use Prim.Native.Nat.{◌+◌, ◌*◌, ◌/◌, ◌%◌, ◌-◌}
 use Rattle.planes.proofs.packing.block_of.Given as goal
 

@@ -3,7 +3,6 @@ use Rattle.planes.proofs.ByteWords.{bit-filled}
 use lib.Bits.{and_le_r}
 use Prim.Native.Nat.{◌/◌, ◌^◌}
 use native.Mathlib.Omega.{arith}
-use borrow.Author.Rules.{rules}
 use Rattle.planes.proofs.packing.filled.Goals as goal
 
 pub overflow_mul-result : goal.overflow_mul-result

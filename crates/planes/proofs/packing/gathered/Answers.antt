@@ -1,11 +1,8 @@
 -- `planes::packing::gathered` meets its contract. The loop's invariant: the word is made of the bytes from place p up, and no step to the byte
 -- below them is too long. Rests on ByteWords.
-use Rattle.planes.proofs.ByteWords.{Gathered, gathered_start, gathered-fits, gathered_next, gathered_done, Steps, steps, at_place}
-use Rattle.planes.specs.Lanes.{strided}
-use Rattle.planes.specs.Tables.{at}
+use Rattle.planes.proofs.ByteWords.{gathered_start, gathered-fits, gathered_next, gathered_done, steps, at_place}
 use mir.Facts.{Fits-8_64}
 use native.Mathlib.Omega.{arith}
-use Prim.Native.Nat.{◌+◌, ◌-◌}
 use Rattle.planes.proofs.packing.gathered.Goals as goal
 
 pub loop-p-init : goal.loop-p-init

@@ -1,10 +1,8 @@
 -- `planes::packing::gathered` meets its contract. The loop's invariant: the word is made of the bytes from place p up, and no step to the byte
 -- below them is too long. Rests on ByteWords.
-use Rattle.planes.proofs.ByteWords.{Gathered, gathered_start, gathered-fits, gathered_next, gathered_done, Steps, steps, at_place}
+use Rattle.planes.proofs.ByteWords.{Gathered, Steps}
 use Rattle.planes.specs.Lanes.{strided}
 use Rattle.planes.specs.Tables.{at}
-use mir.Facts.{Fits-8_64}
-use native.Mathlib.Omega.{arith}
 use Prim.Native.Nat.{◌+◌, ◌-◌}
 use Rattle.planes.proofs.packing.gathered.Given as goal
 

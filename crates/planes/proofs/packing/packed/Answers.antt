@@ -1,6 +1,5 @@
 -- `planes::packing::packed` meets its contract: four gathered words, each taken twice, show the block. Rests on ByteWords.
 use Rattle.planes.proofs.ByteWords.{shows-block}
-use borrow.Author.Rules.{rules}
 use Rattle.planes.proofs.packing.packed.Goals as goal
 
 pub returns : goal.returns

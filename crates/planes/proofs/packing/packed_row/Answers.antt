@@ -1,7 +1,6 @@
 -- `planes::packing::packed_row` meets its contract: eight gathered words show the row. Rests on ByteWords.
 use native.Mathlib.Nat.{add-zero}
 use Rattle.planes.proofs.ByteWords.{eight, shows-row}
-use borrow.Author.Rules.{rules}
 use Rattle.planes.proofs.packing.packed_row.Goals as goal
 
 pub returns : goal.returns

@@ -1,6 +1,5 @@
 -- `planes::packing::repeated_row` meets its contract: planes filled from one gathered word show the row. Rests on ByteWords.
 use Rattle.planes.proofs.ByteWords.{eight, shows-repeated}
-use borrow.Author.Rules.{rules}
 use Rattle.planes.proofs.packing.repeated_row.Goals as goal
 
 pub returns : goal.returns

@@ -1,11 +1,10 @@
 -- `planes::packing::unpacked` meets its contract. The loop's invariant: the first i bytes are those of the words. Rests on Tables.
-use Rattle.planes.proofs.Tables.{Filled, filled_start, filled_next, filled_done, tab-ext}
+use Rattle.planes.proofs.Tables.{filled_start, filled_next, filled_done, tab-ext}
 use Rattle.planes.specs.Lanes.{byte_of}
-use Rattle.planes.specs.Tables.{at, tab}
+use Rattle.planes.specs.Tables.{tab}
 use native.Mathlib.Omega.{arith}
-use borrow.Author.Rules.{rules}
 use mathlib.Core.Path.{refl, ◌∙◌}
-use Prim.Native.Nat.{◌/◌, ◌%◌, ◌-◌}
+use Prim.Native.Nat.{◌/◌, ◌%◌}
 use Rattle.planes.proofs.packing.unpacked.Goals as goal
 
 pub loop-i-init : goal.loop-i-init

@@ -1,10 +1,7 @@
 -- `planes::packing::unpacked` meets its contract. The loop's invariant: the first i bytes are those of the words. Rests on Tables.
-use Rattle.planes.proofs.Tables.{Filled, filled_start, filled_next, filled_done, tab-ext}
+use Rattle.planes.proofs.Tables.{Filled}
 use Rattle.planes.specs.Lanes.{byte_of}
-use Rattle.planes.specs.Tables.{at, tab}
-use native.Mathlib.Omega.{arith}
-use borrow.Author.Rules.{rules}
-use mathlib.Core.Path.{refl, ◌∙◌}
+use Rattle.planes.specs.Tables.{at}
 use Prim.Native.Nat.{◌/◌, ◌%◌, ◌-◌}
 use Rattle.planes.proofs.packing.unpacked.Given as goal
 
