@@ -1,7 +1,7 @@
 -- A way to show a fact of every number below 2 ^ 128 that holds of 0 and of sums: from the field's one and one step of
 -- multiplication by x (`span`). And the laws of that step, `shifted`. Rests on the laws of exclusive or in clmul.
 use mathlib.Core.Path.{◌≡◌, refl, ap, subst, ◌∙◌}
-use Prim.Native.Nat.{ℕ, zero, suc, ◌+◌, ◌-◌, ◌*◌, ◌/◌, ◌%◌, ◌^◌, ◌<◌}
+use Prim.Native.Nat.{ℕ, zero, suc, ◌+◌, ◌-◌, ◌*◌, ◌%◌, ◌^◌, ◌<◌}
 use native.Mathlib.Nat.{lt_of_le_of_lt, div-le_self, pow-suc, mul-mod_left, mul-div_cancel, zero-lt-suc}
 use native.Mathlib.Omega.{arith}
 use lib.Dec.{lit<}

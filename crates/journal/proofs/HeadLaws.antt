@@ -172,7 +172,7 @@ hollow_tells : (n refusal offset : ℕ) (rs : List (ℕ × Edit)) → HollowTell
 unfolding hollow_all made_from stop_from charges greatest_length
 hollow_tells n refusal offset [] = (refl, refl, refl)
 hollow_tells n refusal offset (r ∷ rs) =
-    rw (hollow_refusal n r.1, hollow_geometry n r.1) (flag (eqb (edit_refusal n r.1) 0) (hollow_tells _ refusal offset rs))
+    rw (hollow_refusal n r.1, hollow_geometry n r.1) (flag (eqb (edit_refusal n r.1) 0) (hollow_tells (geometry_at n r.1).n refusal offset rs))
   where
     m : ℕ
     m = (geometry_at n r.1).n

@@ -1,7 +1,6 @@
 -- The journal's laws, from the bottom up.
 pub mod RecordLaws
 pub mod Format
-pub mod ReaderWalks
 pub mod OpeningLaws
 pub mod PlaceLaws
 pub mod ReplayLaws

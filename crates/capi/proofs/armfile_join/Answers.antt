@@ -11,4 +11,4 @@ returns-then-number-ne0 c =
 pub returns : goal.returns
 returns c =
     join_done _ _ _ _ _ c.join-joined.result c.join-joined.ensures c.field_number-number.ensures c.if-number-ne0.false
-    (block_written _ _ c.write-arg-1.given.0.1 refl c.write.ensures)
+    (block_written _ _ (search rules) refl c.write.ensures)

@@ -4,4 +4,4 @@ use borrow.Author.Rules.{rules}
 use Rattle.capi.proofs.armfile_sum.Goals as goal
 
 pub returns : goal.returns
-returns c = block_written _ _ c.write-arg-1.given.0.1 c.sum_of.ensures c.write.ensures
+returns c = block_written _ _ (search rules) c.sum_of.ensures c.write.ensures

@@ -1,11 +1,10 @@
 -- `cipher::write` meets its contract. The loop's invariant: the first i bytes of the output are those given.
 use Rattle.cipher.proofs.Whole.{tab_at}
-use Rattle.planes.proofs.Tables.{Filled, filled_start, filled_next, filled-length, filled_done}
-use Rattle.planes.specs.Tables.{at, tab}
+use Rattle.planes.proofs.Tables.{filled_start, filled_next, filled-length, filled_done}
+use Rattle.planes.specs.Tables.{tab}
 use borrow.Author.Rules.{rules}
 use native.Mathlib.Omega.{arith}
 use mathlib.Core.Path.{refl, ◌∙◌}
-use Prim.Native.Nat.{◌-◌}
 use Rattle.cipher.proofs.write.Goals as goal
 
 pub loop-i-init : goal.loop-i-init

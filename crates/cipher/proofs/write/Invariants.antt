@@ -1,10 +1,6 @@
 -- `cipher::write` meets its contract. The loop's invariant: the first i bytes of the output are those given.
-use Rattle.cipher.proofs.Whole.{tab_at}
-use Rattle.planes.proofs.Tables.{Filled, filled_start, filled_next, filled-length, filled_done}
-use Rattle.planes.specs.Tables.{at, tab}
-use borrow.Author.Rules.{rules}
-use native.Mathlib.Omega.{arith}
-use mathlib.Core.Path.{refl, ◌∙◌}
+use Rattle.planes.proofs.Tables.{Filled}
+use Rattle.planes.specs.Tables.{at}
 use Prim.Native.Nat.{◌-◌}
 use Rattle.cipher.proofs.write.Given as goal
 

@@ -1,14 +1,13 @@
 -- `field::ghash` meets its contract. A refusal leaves the output as it was; where there is none, the hash is written
 -- (`Refusals`).
 use native.Mathlib.Omega.{arith}
-use borrow.Author.Rules.{rules}
 use Rattle.field.proofs.Refusals.{ghash-refused, ghash-fits, ghash_done}
 use Rattle.field.proofs.ghash.Goals as goal
 
 pub returns-in-Refused : goal.returns-in-Refused
 returns-in-Refused c =
     let told = c.ghash_refusal-answer.ensures in
-    (told, ghash-refused _ _ _ _ told c.in-Refused.is)
+    record { answer = told; output = ghash-refused _ _ _ _ told c.in-Refused.is }
 
 pub hash-requires : goal.hash-requires
 hash-requires c =
@@ -21,7 +20,8 @@ write-requires c =
 
 pub returns : goal.returns
 returns c =
-    let told = c.ghash_refusal-answer.ensures in (
-      told,
-      ghash_done _ _ _ _ told c.in_default.is c.from_bytes.ensures c.hash.ensures c.write.ensures,
-    )
+    let told = c.ghash_refusal-answer.ensures in
+    record {
+      answer = told;
+      output = ghash_done _ _ _ _ told c.in_default.is c.from_bytes.ensures c.hash.ensures c.write.ensures;
+    }

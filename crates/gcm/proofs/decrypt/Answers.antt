@@ -3,7 +3,6 @@
 use mathlib.Core.Path.{sym}
 use native.Mathlib.Omega.{arith}
 use borrow.Author.Rules.{rules}
-use borrow.Author.Tests.{not-true, not-false}
 use Rattle.gcm.proofs.TextLaws.{turned_of, gcm_fits, decrypt_refused, decrypt_wrong, decrypt_done}
 use Rattle.gcm.proofs.decrypt.Goals as goal
 
@@ -18,20 +17,20 @@ begin-begun-requires c =
 pub tag_fits-requires : goal.tag_fits-requires
 tag_fits-requires c =
     let fits = gcm_fits _ _ _ _ _ _ c.gcm_refusal-answer.ensures c.in_default.is in
-    (fits.size, omega (arith, c.begin-begun.auto.1.1.0), fits.short, omega (arith, fits.short_text))
+    (fits.size, omega (arith, c.begin-begun.auto.rows), fits.short, omega (arith, fits.short_text))
 
 pub returns-then-not-tag_fits : goal.returns-then-not-tag_fits
 returns-then-not-tag_fits c =
     decrypt_wrong _ _ _ _ _ _ c.gcm_refusal-answer.ensures c.in_default.is
-    (c.tag_fits.ensures _ _ c.begin-begun.ensures) (not-true _ c.if-not-tag_fits.true)
+    (c.tag_fits.ensures _ _ c.begin-begun.ensures) c.if-not-tag_fits.true
 
 pub gctr-requires : goal.gctr-requires
 gctr-requires c =
     let fits = gcm_fits _ _ _ _ _ _ c.gcm_refusal-answer.ensures c.in_default.is in
-    (omega (arith, c.begin-begun.auto.1.1.0), omega (arith, fits.short_text), sym fits.same)
+    (omega (arith, c.begin-begun.auto.rows), omega (arith, fits.short_text), sym fits.same)
 
 pub returns : goal.returns
 returns c =
     decrypt_done _ _ _ _ _ _ c.gcm_refusal-answer.ensures c.in_default.is
-    (c.tag_fits.ensures _ _ c.begin-begun.ensures) (not-false _ c.if-not-tag_fits.false)
+    (c.tag_fits.ensures _ _ c.begin-begun.ensures) c.if-not-tag_fits.false
     (turned_of c.begin-begun.ensures _ c.gctr.ensures)

@@ -17,14 +17,14 @@ begin-begun-requires c =
 pub gctr-requires : goal.gctr-requires
 gctr-requires c =
     let fits = gcm_fits _ _ _ _ _ _ c.gcm_refusal-answer.ensures c.in_default.is in
-    (omega (arith, c.begin-begun.auto.1.1.0), omega (arith, fits.short_text), sym fits.same)
+    (omega (arith, c.begin-begun.auto.rows), omega (arith, fits.short_text), sym fits.same)
 
 pub text_tag-requires : goal.text_tag-requires
 text_tag-requires c =
     let fits = gcm_fits _ _ _ _ _ _ c.gcm_refusal-answer.ensures c.in_default.is in (
-      omega (arith, c.begin-begun.auto.1.1.0),
+      omega (arith, c.begin-begun.auto.rows),
       fits.short,
-      omega (arith, fits.short_text, fits.same, c.gctr.auto.1.1.1.0),
+      omega (arith, fits.short_text, fits.same, c.gctr.auto.out),
     )
 
 pub write-requires : goal.write-requires

@@ -8,7 +8,7 @@ use Rattle.gcm.proofs.gmac.Goals as goal
 pub returns-in-Refused : goal.returns-in-Refused
 returns-in-Refused c =
     let told = c.gcm_refusal-answer.ensures in
-    (gmac-told _ _ _ _ told, gmac-refused _ _ _ _ _ told c.in-Refused.is)
+    record { answer = gmac-told _ _ _ _ told; output = gmac-refused _ _ _ _ _ told c.in-Refused.is }
 
 pub from_bytes-k-requires : goal.from_bytes-k-requires
 from_bytes-k-requires c = (gmac-fits _ _ _ _ _ c.gcm_refusal-answer.ensures c.in_default.is).fits
@@ -24,8 +24,8 @@ write-requires c =
 
 pub returns : goal.returns
 returns c =
-    let told = c.gcm_refusal-answer.ensures in (
-      gmac-told _ _ _ _ told,
-      gmac_done _ _ _ _ _ told c.in_default.is c.from_bytes-k.ensures c.hash_key-h.ensures
-          c.sum.ensures c.tag.ensures c.write.ensures,
-    )
+    let told = c.gcm_refusal-answer.ensures in
+    record {
+      answer = gmac-told _ _ _ _ told;
+      output = gmac_done _ _ _ _ _ told c.in_default.is c.from_bytes-k.ensures c.hash_key-h.ensures c.sum.ensures c.tag.ensures c.write.ensures;
+    }

@@ -7,10 +7,10 @@ use Rattle.capi.proofs.StateBytes.{key-size, decoded}
 use Rattle.capi.proofs.packing.decode.Goals as goal
 
 pub slice_bounds-from_bytes-end : goal.slice_bounds-from_bytes-end
-slice_bounds-from_bytes-end c = sym (key-size c.args.b.now c.all-1.given.0)
+slice_bounds-from_bytes-end c = sym (key-size c.args.b.now (search rules))
 
 pub from_bytes-key-requires : goal.from_bytes-key-requires
-from_bytes-key-requires c = length-fits _ (key-size c.args.b.now c.all-1.given.0)
+from_bytes-key-requires c = length-fits _ (key-size c.args.b.now (search rules))
 
 pub returns : goal.returns
 unfolding state_from

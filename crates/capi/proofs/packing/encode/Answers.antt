@@ -5,6 +5,6 @@ use Rattle.capi.proofs.packing.encode.Goals as goal
 
 pub returns : goal.returns
 returns c =
-    encoded c.args.st _ _ c.write-arg-1.given.0.1 c.key_block.ensures
+    encoded c.args.st _ _ (search rules) c.key_block.ensures
     c.write.ensures c.write-2.ensures c.write-3.ensures c.write-4.ensures
     c.store.ensures c.store-2.ensures c.store-3.ensures

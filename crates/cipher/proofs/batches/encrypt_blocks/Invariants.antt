@@ -1,11 +1,9 @@
 -- `cipher::batches::encrypt_blocks` meets its contract. The loop's invariant: the blocks before `at` are replaced.
-use mathlib.Core.Path.{◌≡◌, refl}
+use mathlib.Core.Path.{◌≡◌}
 use Prim.Native.Nat.{◌-◌, ◌%◌}
 use lib.ListN.{length}
 use Rattle.cipher.specs.Cipher.{each_block}
-use Rattle.cipher.proofs.ManyBlocks.{length_each, Replaced, replaced_start, replaced-length, replaced_done, portion_size, portion_room, portion_next}
-use borrow.Author.Rules.{rules}
-use native.Mathlib.Omega.{arith}
+use Rattle.cipher.proofs.ManyBlocks.{Replaced}
 use Rattle.cipher.proofs.batches.encrypt_blocks.Given as goal
 
 abbrev pub invariant-loop-at : goal.invariant-loop-at

@@ -1,11 +1,9 @@
 -- `cipher::kernel::add_round_keys` meets its contract. The loop's invariant: the key is added to the first r rows.
 use mathlib.Core.Path.{ap, ◌∙◌}
-use Prim.Native.Nat.{◌+◌, ◌-◌, ◌*◌, ◌/◌}
-use Rattle.planes.specs.Tables.{at}
-use Rattle.planes.specs.Planes.{xor, lane, Shows}
-use Rattle.cipher.specs.Clauses.{blank, row_in}
+use Rattle.planes.specs.Planes.{xor}
+use Rattle.cipher.specs.Clauses.{blank}
 use Rattle.cipher.proofs.SixteenStates.{state-sum}
-use Rattle.planes.proofs.Tables.{Each, each_start, each_next}
+use Rattle.planes.proofs.Tables.{each_start, each_next}
 use borrow.Author.Rules.{rules}
 use native.Mathlib.Omega.{arith}
 use Rattle.cipher.proofs.kernel.add_round_keys.Goals as goal

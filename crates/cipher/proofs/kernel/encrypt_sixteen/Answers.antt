@@ -1,11 +1,8 @@
 -- `cipher::kernel::encrypt_sixteen` meets its contract. The loop's invariant: each state is that after `done` rounds.
-use mathlib.Core.Path.{◌≡◌, refl, ◌∙◌}
-use Prim.Native.Nat.{ℕ, ◌+◌, ◌-◌, ◌≤◌, ◌<◌}
+use mathlib.Core.Path.{refl, ◌∙◌}
 use Rattle.cipher.specs.Cipher.{after}
-use Rattle.cipher.specs.Clauses.{state_in}
 use Rattle.cipher.proofs.Whole.{after_more, cipher_done}
 use Rattle.cipher.proofs.SixteenStates.{states_ciphered}
-use borrow.Author.Rules.{rules}
 use native.Mathlib.Omega.{arith}
 use Rattle.cipher.proofs.kernel.encrypt_sixteen.Goals as goal
 

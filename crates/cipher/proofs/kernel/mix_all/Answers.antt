@@ -1,10 +1,7 @@
 -- `cipher::kernel::mix_all` meets its contract. The loop's invariant: the first r rows are mixed.
-use Prim.Native.Nat.{◌+◌, ◌-◌, ◌%◌}
-use Rattle.planes.specs.Planes.{lane, Shows}
-use Rattle.cipher.specs.Rounds.{mixed}
-use Rattle.cipher.specs.Clauses.{blank, row_in}
+use Rattle.cipher.specs.Clauses.{blank}
 use Rattle.cipher.proofs.SixteenStates.{state-mix}
-use Rattle.planes.proofs.Tables.{Each, each_start, each_next}
+use Rattle.planes.proofs.Tables.{each_start, each_next}
 use borrow.Author.Rules.{rules}
 use native.Mathlib.Omega.{arith}
 use Rattle.cipher.proofs.kernel.mix_all.Goals as goal

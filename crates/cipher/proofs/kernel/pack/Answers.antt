@@ -1,10 +1,7 @@
 -- `cipher::kernel::pack` meets its contract. The loop's invariant: the first r rows are packed.
-use Prim.Native.Nat.{◌+◌, ◌-◌, ◌*◌, ◌/◌, ◌%◌}
-use Rattle.planes.specs.Tables.{at}
-use Rattle.planes.specs.Planes.{Shows}
 use Rattle.cipher.specs.Clauses.{blank}
 use Rattle.cipher.proofs.SixteenStates.{state-packed}
-use Rattle.planes.proofs.Tables.{Each, each_start, each_next}
+use Rattle.planes.proofs.Tables.{each_start, each_next}
 use borrow.Author.Rules.{rules}
 use native.Mathlib.Omega.{arith}
 use Rattle.cipher.proofs.kernel.pack.Goals as goal

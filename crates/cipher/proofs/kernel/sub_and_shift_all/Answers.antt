@@ -1,10 +1,8 @@
 -- `cipher::kernel::sub_and_shift_all` meets its contract. The loop's invariant: the first r rows are substituted and moved.
 use mathlib.Core.Path.{◌∙◌}
-use Prim.Native.Nat.{◌+◌, ◌-◌, ◌*◌, ◌%◌}
-use Rattle.planes.specs.Planes.{sbox, lane, Shows}
-use Rattle.cipher.specs.Clauses.{blank, row_in}
+use Rattle.cipher.specs.Clauses.{blank}
 use Rattle.cipher.proofs.SixteenStates.{state-shift}
-use Rattle.planes.proofs.Tables.{Each, each_start, each_next}
+use Rattle.planes.proofs.Tables.{each_start, each_next}
 use borrow.Author.Rules.{rules}
 use native.Mathlib.Omega.{arith}
 use Rattle.cipher.proofs.kernel.sub_and_shift_all.Goals as goal

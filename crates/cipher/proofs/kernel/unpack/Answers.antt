@@ -1,9 +1,7 @@
 -- `cipher::kernel::unpack` meets its contract. The loop's invariant: the blocks before block i are written.
 use mathlib.Core.Path.{refl, ◌∙◌}
-use Prim.Native.Nat.{◌-◌, ◌*◌}
-use Rattle.cipher.proofs.ManyBlocks.{Replaced, replaced-length}
-use Rattle.cipher.proofs.SixteenStates.{block_in, blocks_in, blocks_start, blocks-length, blocks_next, blocks_done, states_words}
-use borrow.Author.Rules.{rules}
+use Rattle.cipher.proofs.ManyBlocks.{replaced-length}
+use Rattle.cipher.proofs.SixteenStates.{block_in, blocks_start, blocks_next, blocks_done, states_words}
 use native.Mathlib.Omega.{arith}
 use Rattle.cipher.proofs.kernel.unpack.Goals as goal
 

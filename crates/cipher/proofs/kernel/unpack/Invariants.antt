@@ -1,10 +1,7 @@
 -- `cipher::kernel::unpack` meets its contract. The loop's invariant: the blocks before block i are written.
-use mathlib.Core.Path.{refl, ◌∙◌}
 use Prim.Native.Nat.{◌-◌, ◌*◌}
-use Rattle.cipher.proofs.ManyBlocks.{Replaced, replaced-length}
-use Rattle.cipher.proofs.SixteenStates.{block_in, blocks_in, blocks_start, blocks-length, blocks_next, blocks_done, states_words}
-use borrow.Author.Rules.{rules}
-use native.Mathlib.Omega.{arith}
+use Rattle.cipher.proofs.ManyBlocks.{Replaced}
+use Rattle.cipher.proofs.SixteenStates.{blocks_in}
 use Rattle.cipher.proofs.kernel.unpack.Given as goal
 
 abbrev pub invariant-loop-i : goal.invariant-loop-i

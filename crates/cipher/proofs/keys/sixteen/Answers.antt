@@ -1,10 +1,9 @@
 -- `cipher::keys::sixteen` meets its contract. The loop's invariant: the first i bytes are the slice's.
 use Rattle.cipher.proofs.Whole.{tab_at}
-use Rattle.planes.proofs.Tables.{Filled, filled_start, filled_next, filled_done}
-use Rattle.planes.specs.Tables.{at, tab}
+use Rattle.planes.proofs.Tables.{filled_start, filled_next, filled_done}
+use Rattle.planes.specs.Tables.{tab}
 use native.Mathlib.Omega.{arith}
 use mathlib.Core.Path.{refl, ◌∙◌}
-use Prim.Native.Nat.{◌-◌}
 use Rattle.cipher.proofs.keys.sixteen.Goals as goal
 
 pub loop-i-init : goal.loop-i-init

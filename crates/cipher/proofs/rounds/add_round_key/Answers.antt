@@ -1,6 +1,5 @@
 -- `cipher::rounds::add_round_key` meets its contract. The round key, packed, is added in every lane.
 use Rattle.cipher.proofs.RoundLanes.{shows-sum}
-use borrow.Author.Rules.{rules}
 use Rattle.cipher.proofs.rounds.add_round_key.Goals as goal
 
 pub returns : goal.returns

@@ -1,6 +1,5 @@
 -- `cipher::rounds::mix_columns` meets its contract. The rows behind a lane's own are eight, sixteen and 24 lanes on.
 use Rattle.cipher.proofs.RoundLanes.{shows-mix}
-use borrow.Author.Rules.{rules}
 use Rattle.cipher.proofs.rounds.mix_columns.Goals as goal
 
 pub returns : goal.returns

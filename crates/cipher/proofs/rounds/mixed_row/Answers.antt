@@ -2,7 +2,6 @@
 use mathlib.Core.Path.{◌∙◌}
 use Rattle.planes.proofs.Bits.{lane-lt}
 use Rattle.cipher.proofs.RoundLanes.{mixed-bytes}
-use borrow.Author.Rules.{rules}
 use Rattle.cipher.proofs.rounds.mixed_row.Goals as goal
 
 pub returns : goal.returns

@@ -1,6 +1,5 @@
 -- `cipher::rounds::round` meets its contract. A round is its four transformations.
 use Rattle.cipher.specs.Cipher.{Round}
-use borrow.Author.Rules.{rules}
 use Rattle.cipher.proofs.rounds.round.Goals as goal
 
 pub returns : goal.returns

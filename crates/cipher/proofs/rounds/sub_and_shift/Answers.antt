@@ -1,6 +1,5 @@
 -- `cipher::rounds::sub_and_shift` meets its contract. SUBBYTES, then SHIFTROWS.
 use Rattle.cipher.proofs.RoundLanes.{shows-sub, shows-shift}
-use borrow.Author.Rules.{rules}
 use Rattle.cipher.proofs.rounds.sub_and_shift.Goals as goal
 
 pub returns : goal.returns

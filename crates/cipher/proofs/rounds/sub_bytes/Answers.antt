@@ -1,7 +1,6 @@
 -- `cipher::rounds::sub_bytes` meets its contract. The bytes are packed, substituted in every lane, and read back.
 use mathlib.Core.Path.{◌∙◌}
 use Rattle.cipher.proofs.RoundLanes.{length-sub, shows-sub, shows-back}
-use borrow.Author.Rules.{rules}
 use Rattle.cipher.proofs.rounds.sub_bytes.Goals as goal
 
 pub returns : goal.returns

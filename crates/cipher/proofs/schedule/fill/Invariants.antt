@@ -1,11 +1,7 @@
 -- `cipher::schedule::fill` meets its contract. The loop's invariant: the first r rows are the schedule's.
-use Rattle.planes.proofs.Tables.{Filled, filled_start, filled_next, filled-entry, filled-length, filled_done}
+use Rattle.planes.proofs.Tables.{Filled}
 use Rattle.cipher.specs.Clauses.{row_of}
-use Rattle.planes.specs.Tables.{tab}
 use lib.ListN.{length}
-use native.Mathlib.Omega.{arith}
-use mathlib.Core.List.{[]}
-use mathlib.Core.Path.{refl}
 use Prim.Native.Nat.{◌-◌}
 use Rattle.cipher.proofs.schedule.fill.Given as goal
 

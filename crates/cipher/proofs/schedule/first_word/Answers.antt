@@ -2,7 +2,6 @@
 -- only substituted where not.
 use Rattle.cipher.proofs.KeyRows.{first_turned, first_substituted}
 use Rattle.planes.proofs.Bytes.{xor_is}
-use borrow.Author.Rules.{rules}
 use Rattle.cipher.proofs.schedule.first_word.Goals as goal
 
 pub returns-then-r-d-eq0 : goal.returns-then-r-d-eq0

@@ -1,9 +1,8 @@
 -- `cipher::schedule::key_row` meets its contract. The loop's invariant: the first i bytes are the key's.
-use Rattle.planes.proofs.Tables.{Filled, filled_start, filled_next, filled_done}
-use Rattle.planes.specs.Tables.{at, tab}
+use Rattle.planes.proofs.Tables.{filled_start, filled_next, filled_done}
+use Rattle.planes.specs.Tables.{tab}
 use native.Mathlib.Omega.{arith}
 use mathlib.Core.Path.{refl}
-use Prim.Native.Nat.{◌+◌, ◌*◌, ◌-◌}
 use Rattle.cipher.proofs.schedule.key_row.Goals as goal
 
 pub loop-i-init : goal.loop-i-init

@@ -1,8 +1,6 @@
 -- `cipher::schedule::key_row` meets its contract. The loop's invariant: the first i bytes are the key's.
-use Rattle.planes.proofs.Tables.{Filled, filled_start, filled_next, filled_done}
-use Rattle.planes.specs.Tables.{at, tab}
-use native.Mathlib.Omega.{arith}
-use mathlib.Core.Path.{refl}
+use Rattle.planes.proofs.Tables.{Filled}
+use Rattle.planes.specs.Tables.{at}
 use Prim.Native.Nat.{◌+◌, ◌*◌, ◌-◌}
 use Rattle.cipher.proofs.schedule.key_row.Given as goal
 

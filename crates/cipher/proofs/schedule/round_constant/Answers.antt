@@ -2,7 +2,6 @@
 use mathlib.Core.List.{List}
 use mathlib.Core.Path.{sym, ap, ◌∙◌}
 use Prim.Native.Nat.{ℕ, ◌-◌}
-use borrow.Author.Rules.{rules}
 use lib.ListN.{get_or}
 use Rattle.planes.specs.Planes.{x_power}
 use Rattle.planes.proofs.Tables.{get_d_tab}

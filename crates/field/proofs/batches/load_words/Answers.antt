@@ -1,8 +1,5 @@
 -- `field::batches::load_words` meets its contract. The loop's invariant: the first n words of each array are loaded.
-use Prim.Native.Nat.{◌+◌, ◌-◌, ◌*◌}
 use native.Mathlib.Omega.{arith}
-use Rattle.field.specs.Bytes.{number}
-use Rattle.field.specs.Clauses.{Loaded}
 use Rattle.field.proofs.BatchLaws.{loaded_start, loaded_next, loaded_done}
 use Rattle.field.proofs.batches.load_words.Goals as goal
 
@@ -15,4 +12,5 @@ loop-n-preserved c =
     (loaded_next inv.0 (omega arith) c.word_at.ensures, loaded_next inv.1 (omega arith) c.word_at-in-loop-n.ensures)
 
 pub returns : goal.returns
-returns c = (loaded_done c.loop-n.invariant.0 (omega arith), loaded_done c.loop-n.invariant.1 (omega arith))
+returns c =
+    record { hi = loaded_done c.loop-n.invariant.0 (omega arith); lo = loaded_done c.loop-n.invariant.1 (omega arith) }

@@ -1,9 +1,7 @@
 -- `field::batches::load_words` meets its contract. The loop's invariant: the first n words of each array are loaded.
 use Prim.Native.Nat.{◌+◌, ◌-◌, ◌*◌}
-use native.Mathlib.Omega.{arith}
 use Rattle.field.specs.Bytes.{number}
 use Rattle.field.specs.Clauses.{Loaded}
-use Rattle.field.proofs.BatchLaws.{loaded_start, loaded_next, loaded_done}
 use Rattle.field.proofs.batches.load_words.Given as goal
 
 abbrev pub invariant-loop-n : goal.invariant-loop-n

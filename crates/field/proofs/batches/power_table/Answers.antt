@@ -1,13 +1,9 @@
 -- `field::batches::power_table` meets its contract. The loop's invariant: the words of the first n powers stand in the two arrays. Their halves'
 -- mixtures are the table (`RowLaws` of clmul).
 use mathlib.Core.Path.{refl}
-use Prim.Native.Nat.{◌-◌}
-use lib.ListN.{get_or}
-use borrow.Author.Rules.{rules}
 use native.Mathlib.Omega.{arith}
 use Rattle.clmul.proofs.RowLaws.{table_in}
 use Rattle.field.specs.Blocks.{zero_block, block}
-use Rattle.field.specs.Clauses.{Loaded}
 use Rattle.field.proofs.BatchLaws.{loaded_start, loaded_next, loaded_done, power-words}
 use Rattle.field.proofs.batches.power_table.Goals as goal
 

@@ -1,14 +1,12 @@
 -- `field::filling::blank_sum` meets its contract. Nothing is multiplied, or three products close the series (`Blank`).
 use mathlib.Core.Logic.{inl, inr, ⊎_elim}
 use native.Mathlib.Omega.{arith}
-use borrow.Author.Rules.{rules}
-use borrow.Author.Tests.{eqb-true, eqb-false}
 use Rattle.field.specs.Sums.{blocks}
 use Rattle.field.proofs.Blank.{blank_none, blank-room, blank_done}
 use Rattle.field.proofs.filling.blank_sum.Goals as goal
 
 pub returns-then-n-eq0 : goal.returns-then-n-eq0
-returns-then-n-eq0 c = blank_none _ _ _ _ (⊎_elim (λ w. inl w.taken) (λ w. inr (eqb-true _ _ w.1.taken)) c.if-n-eq0.branch)
+returns-then-n-eq0 c = blank_none _ _ _ _ (⊎_elim inl (λ w. inr w.1) c.then-n-eq0.either)
 
 pub overflow_sub-whole : goal.overflow_sub-whole
 unfolding blocks
@@ -42,7 +40,7 @@ counted_product-requires c =
 
 pub returns : goal.returns
 returns c =
-    blank_done _ _ _ _ _ c.if-n-eq0.false (eqb-false _ _ c.if-fill-eq0.false) c.blocks-whole.ensures
+    blank_done _ _ _ _ _ c.if-n-eq0.false c.if-fill-eq0.false c.blocks-whole.ensures
     c.series-g.ensures
     c.filled.ensures
     c.counted_product-fh.ensures

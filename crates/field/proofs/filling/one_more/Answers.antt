@@ -1,6 +1,5 @@
 -- `field::filling::one_more` meets its contract. Two counted products, one after the other (`Series`).
 use native.Mathlib.Omega.{arith}
-use borrow.Author.Rules.{rules}
 use Rattle.field.specs.declared.blocks.Block.{Block}
 use Rattle.field.specs.Blocks.{◌⊕◌, one, block}
 use Rattle.field.proofs.Series.{two_products}

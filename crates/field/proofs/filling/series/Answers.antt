@@ -3,7 +3,7 @@
 use native.Mathlib.Omega.{arith}
 use Rattle.field.specs.Blocks.{one, block}
 use Rattle.field.proofs.Steps.{leading-width, width-pos}
-use Rattle.field.proofs.Series.{series-none, Building, building_start, building_room, building_zero, building_one, building_done}
+use Rattle.field.proofs.Series.{series-none, building_start, building_room, building_zero, building_one, building_done}
 use Rattle.field.proofs.filling.series.Goals as goal
 
 pub returns-then-k-eq0 : goal.returns-then-k-eq0

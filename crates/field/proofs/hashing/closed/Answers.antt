@@ -1,6 +1,5 @@
 -- `field::hashing::closed` meets its contract. The block of the lengths is added, and the sum multiplied (`Hash`).
 use native.Mathlib.Omega.{arith}
-use borrow.Author.Rules.{rules}
 use Rattle.field.proofs.Hash.{closed_run}
 use Rattle.field.proofs.hashing.closed.Goals as goal
 

@@ -1,5 +1,4 @@
 -- `field::hashing::hash` meets its contract. GHASH is Y over both lists and the block of their lengths (`Hash`).
-use borrow.Author.Rules.{rules}
 use Rattle.field.specs.Blocks.{zero_block, block}
 use Rattle.field.proofs.Hash.{ghash-run}
 use Rattle.field.proofs.hashing.hash.Goals as goal

@@ -1,6 +1,5 @@
 -- `field::joining::join` meets its contract. A refusal gives the empty file; where there is none, the parts are joined (`JoinAnswers`).
 use Rattle.field.proofs.JoinAnswers.{join_refused, join-none, join_done}
-use borrow.Author.Rules.{rules}
 use Rattle.field.proofs.joining.join.Goals as goal
 
 pub returns-in-Refused : goal.returns-in-Refused

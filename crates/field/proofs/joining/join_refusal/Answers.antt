@@ -5,7 +5,6 @@ use Rattle.field.specs.Parts.{join_refusal}
 use Rattle.field.proofs.PartLengths.{over-capped, within-capped}
 use Rattle.field.proofs.JoinAnswers.{odd-sums, wrong-sums, past-sizes}
 use native.Mathlib.Omega.{arith}
-use borrow.Author.Rules.{rules}
 use Rattle.field.proofs.joining.join_refusal.Goals as goal
 
 pub returns-then-h-ne16 : goal.returns-then-h-ne16

@@ -1,9 +1,6 @@
 -- `field::joining::total` meets its contract. The loop's invariant is `Totalling` of `PartLengths`.
-use Prim.Native.Nat.{◌-◌}
-use lib.ListN.{length}
-use borrow.Author.Rules.{rules}
 use native.Mathlib.Omega.{arith}
-use Rattle.field.proofs.PartLengths.{Totalling, totalling_start, totalling_next, totalling_over, totalling_done}
+use Rattle.field.proofs.PartLengths.{totalling_start, totalling_next, totalling_over, totalling_done}
 use Rattle.field.proofs.joining.total.Goals as goal
 
 pub loop-i-init : goal.loop-i-init

@@ -1,9 +1,6 @@
 -- `field::joining::unaligned` meets its contract. The loop's invariant is `Aligning` of `PartLengths`.
-use Prim.Native.Nat.{◌-◌}
-use lib.ListN.{length}
-use borrow.Author.Rules.{rules}
 use native.Mathlib.Omega.{arith}
-use Rattle.field.proofs.PartLengths.{Aligning, aligning_start, aligning_next, aligning_found, aligning_done}
+use Rattle.field.proofs.PartLengths.{aligning_start, aligning_next, aligning_found, aligning_done}
 use Rattle.field.proofs.joining.unaligned.Goals as goal
 
 pub loop-next-init : goal.loop-next-init

@@ -1,6 +1,5 @@
 -- `field::multiplying::reduced` meets its contract. The number is doubled, and two times 64 steps of V then are 127 of it (`ReductionWords`).
 use native.Mathlib.Omega.{arith}
-use borrow.Author.Rules.{rules}
 use Rattle.field.proofs.ReductionWords.{reduced-words}
 use Rattle.field.proofs.multiplying.reduced.Goals as goal
 

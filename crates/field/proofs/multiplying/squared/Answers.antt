@@ -1,7 +1,6 @@
 -- `field::multiplying::squared` meets its contract. One reduction makes the product out of the carry-less product (`ReductionWords`).
 use mathlib.Core.Path.{◌∙◌}
 use native.Mathlib.Omega.{arith}
-use borrow.Author.Rules.{rules}
 use Rattle.field.proofs.ReductionWords.{product_lt, product-words}
 use Rattle.field.proofs.multiplying.squared.Goals as goal
 

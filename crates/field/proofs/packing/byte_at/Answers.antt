@@ -1,6 +1,5 @@
 -- `field::packing::byte_at` meets its contract. Each return by its own law: a place in the zero bytes, past the end, or in the
 -- list behind them (`Packed`).
-use borrow.Author.Rules.{rules}
 use Rattle.field.proofs.Packed.{in_lead, past-lead, past_end}
 use Rattle.field.proofs.packing.byte_at.Goals as goal
 

@@ -1,11 +1,7 @@
 -- `field::packing::number_at` meets its contract. The loop's invariant is `Reading` of `Packed`: n is the number of the k bytes
 -- read so far.
-use mathlib.Core.List.{◌++◌}
-use Prim.Native.Nat.{◌-◌}
-use borrow.Author.Rules.{rules}
-use lib.ListN.{replicate}
 use native.Mathlib.Omega.{arith}
-use Rattle.field.proofs.Packed.{Reading, reading_start, reading-lt, reading_next, reading_done}
+use Rattle.field.proofs.Packed.{reading_start, reading-lt, reading_next, reading_done}
 use Rattle.field.proofs.packing.number_at.Goals as goal
 
 pub loop-k-init : goal.loop-k-init

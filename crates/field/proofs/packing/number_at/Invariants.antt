@@ -2,10 +2,8 @@
 -- read so far.
 use mathlib.Core.List.{◌++◌}
 use Prim.Native.Nat.{◌-◌}
-use borrow.Author.Rules.{rules}
 use lib.ListN.{replicate}
-use native.Mathlib.Omega.{arith}
-use Rattle.field.proofs.Packed.{Reading, reading_start, reading-lt, reading_next, reading_done}
+use Rattle.field.proofs.Packed.{Reading}
 use Rattle.field.proofs.packing.number_at.Given as goal
 
 abbrev pub invariant-loop-k : goal.invariant-loop-k

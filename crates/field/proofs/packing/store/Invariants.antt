@@ -1,7 +1,6 @@
 -- `field::packing::store` meets its contract. The loop's invariant is `Writing` of `Packed`: with the k bytes of rest stored yet,
 -- out holds what it is to hold.
-use native.Mathlib.Omega.{arith}
-use Rattle.field.proofs.Packed.{Writing, writing_start, writing_next, writing_done}
+use Rattle.field.proofs.Packed.{Writing}
 use Rattle.field.proofs.packing.store.Given as goal
 
 abbrev pub invariant-loop-k : goal.invariant-loop-k

@@ -2,7 +2,7 @@
 -- power, and the running count with the steps left is the last count.
 use native.Mathlib.Omega.{arith}
 use Rattle.field.specs.Blocks.{one, block}
-use Rattle.field.proofs.Seek.{Seeking, seeking_start, seeking_next, seeking_room, seeking_room-2, seeking_done}
+use Rattle.field.proofs.Seek.{seeking_start, seeking_next, seeking_room, seeking_room-2, seeking_done}
 use Rattle.field.proofs.seeking.seek.Goals as goal
 
 pub loop-left-init : goal.loop-left-init

@@ -1,8 +1,6 @@
 -- `field::seeking::seek` meets its contract. The loop's invariant is `Seeking` of `Seek`: y times x to what is left of k is the
 -- power, and the running count with the steps left is the last count.
-use native.Mathlib.Omega.{arith}
-use Rattle.field.specs.Blocks.{one, block}
-use Rattle.field.proofs.Seek.{Seeking, seeking_start, seeking_next, seeking_room, seeking_room-2, seeking_done}
+use Rattle.field.proofs.Seek.{Seeking}
 use Rattle.field.proofs.seeking.seek.Given as goal
 
 abbrev pub invariant-loop-left : goal.invariant-loop-left

@@ -1,6 +1,5 @@
 -- `field::seeking::times_bit` meets its contract. y • x^0 is y, and y • x^1 is y • x (`Seek`).
 use native.Mathlib.Omega.{arith}
-use borrow.Author.Rules.{rules}
 use Rattle.field.proofs.Seek.{times-bit-zero, times-bit-one}
 use Rattle.field.proofs.seeking.times_bit.Goals as goal
 

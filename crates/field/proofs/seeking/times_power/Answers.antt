@@ -2,7 +2,6 @@
 use mathlib.Core.Path.{ap, ◌∙◌}
 use Prim.Native.Nat.{◌+◌}
 use native.Mathlib.Omega.{arith}
-use borrow.Author.Rules.{rules}
 use Rattle.field.specs.declared.seeking.Sought.{Sought}
 use Rattle.field.specs.Blocks.{◌•◌}
 use Rattle.field.specs.Clauses.{counted}

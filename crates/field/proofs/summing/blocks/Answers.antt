@@ -1,5 +1,4 @@
 -- `field::summing::blocks` meets its contract. The quotient rounded up, without a sum that wraps.
-use borrow.Author.Rules.{rules}
 use native.Mathlib.Omega.{arith}
 use Rattle.field.specs.Sums.{blocks}
 use Rattle.field.proofs.summing.blocks.Goals as goal

@@ -1,5 +1,4 @@
 -- `field::summing::run` meets its contract. Both ways give the same.
-use borrow.Author.Rules.{rules}
 use Rattle.field.proofs.summing.run.Goals as goal
 
 pub returns-then-s-lt-BATCHED : goal.returns-then-s-lt-BATCHED

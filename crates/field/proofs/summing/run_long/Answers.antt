@@ -1,5 +1,4 @@
 -- `field::summing::run_long` meets its contract. Past the batches it goes on over what is left (`BatchLaws`).
-use borrow.Author.Rules.{rules}
 use native.Mathlib.Omega.{arith}
 use Rattle.field.proofs.BatchLaws.{batched_all}
 use Rattle.field.proofs.summing.run_long.Goals as goal

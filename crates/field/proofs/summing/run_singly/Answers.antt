@@ -1,6 +1,5 @@
 -- `field::summing::run_singly` meets its contract. It is a fold with nothing in front and nothing added (`Folds`).
 use mathlib.Core.Path.{ap}
-use borrow.Author.Rules.{rules}
 use native.Mathlib.Omega.{arith}
 use Rattle.field.specs.declared.multiplying.Counted.{Counted}
 use Rattle.field.specs.Sums.{blocks}

@@ -1,6 +1,5 @@
 -- `field::summing::sum` meets its contract. The sum is Y of all the blocks from nothing (`Horner`).
 use mathlib.Core.Path.{◌∙◌}
-use borrow.Author.Rules.{rules}
 use Rattle.field.specs.Blocks.{zero_block, block}
 use Rattle.field.proofs.Horner.{horner}
 use Rattle.field.proofs.summing.sum.Goals as goal

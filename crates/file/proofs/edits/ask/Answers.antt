@@ -10,15 +10,15 @@ returns-then-l-eq0 c =
 
 pub moved_by-requires : goal.moved_by-requires
 moved_by-requires c =
-    fits-placed c.args.st _ _ _ _ c.measure-measured.ensures c.in-Fits.is (omega arith)
-    c.requires
+    let fits = fits-placed c.args.st _ _ _ _ c.measure-measured.ensures c.in-Fits.is (omega arith)
+    c.requires in
+    record { q_value = fits.0; q_bound = fits.1 }
 
 pub returns-in-Refused : goal.returns-in-Refused
 returns-in-Refused c =
-    ask_refused _ _ _ c.args.a.now c.args.b.now c.measure-measured.ensures c.decreases.given.1
+    ask_refused _ _ _ c.args.a.now c.args.b.now c.measure-measured.ensures c.in-Refused.is
 
 pub returns-else-l-eq0 : goal.returns-else-l-eq0
 returns-else-l-eq0 c =
-    let new = c.moved_by.ensures in
     ask_done _ _ _ _ _ c.measure-measured.ensures c.in-Fits.is (omega arith)
-    new.0 new.1.0 new.1.1
+    c.moved_by.ensures.sum c.moved_by.ensures.length c.moved_by.ensures.count

@@ -7,6 +7,6 @@ use Rattle.file.proofs.slips.write.Goals as goal
 
 pub returns : goal.returns
 returns c =
-    let small : Small c.args.f.tag = record { hi = omega (arith, start); lo = omega (arith, start) } in
-    slip-stored _ _ _ _ _ c.requires.0 (omega (arith, start)) (omega (arith, start)) small
+    let small : Small c.args.f.tag = record { hi = omega arith; lo = omega arith } in
+    slip-stored _ _ _ _ _ c.requires.0 (omega arith) (omega arith) small
     c.store.ensures c.store-2.ensures c.store-3.ensures c.store-4.ensures c.store-5.ensures

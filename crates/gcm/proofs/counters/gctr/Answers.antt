@@ -18,20 +18,20 @@ loop-at-init c = turning_start _ _ _ _
 pub turn-requires : goal.turn-requires
 turn-requires c =
     let inv = c.loop-at.invariant in
- (
-      (
+    record {
+      in_bounds = (
         c.requires.0,
         inv.whole c.loop-at-test.true,
         omega (arith, c.batch-n.ensures),
         omega (arith, c.batch-n.ensures, c.loop-at-test.true),
         c.requires.1,
-      ),
-      inv.size ∙ c.requires.2,
-    )
+      );
+      out_len = inv.size ∙ c.requires.2;
+    }
 
 pub loop-at-preserved : goal.loop-at-preserved
 loop-at-preserved c =
-    turning_next c.loop-at.invariant _ c.batch-n.ensures c.loop-at-test.true c.turn.auto.1.1.1.1.1.0
+    turning_next c.loop-at.invariant _ c.batch-n.ensures c.loop-at-test.true c.turn.auto.out
     c.turn.ensures
 
 pub shape_of-out : goal.shape_of-out
@@ -39,7 +39,7 @@ shape_of-out c = c.loop-at.invariant.size
 
 pub returns : goal.returns
 returns c =
-    let j = c.args.t2 in
+    let j = c.args.j in
     let small : (i : ℕ) → i < length j → get_or j i 0 < 256 = λ i l. (let f : Fits w8 (get_or j i 0) = search rules in f.fits) in
     λ key e.
     turning_done c.loop-at.invariant (omega arith) c.requires.2 key e

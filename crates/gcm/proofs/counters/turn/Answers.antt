@@ -12,20 +12,20 @@ pub key_stream-requires : goal.key_stream-requires
 key_stream-requires c =
     let fits = c.stream_bytes-whole.ensures in
     let size = pad_part c.stream_bytes-whole.result fits.2 in
-    (c.requires.0.0, omega (arith, size, fits.0), omega (arith, size, fits.2, c.requires.0.3, c.requires.0.4))
+    (c.requires.in_bounds.0, omega (arith, size, fits.0), omega (arith, size, fits.2, c.requires.in_bounds.3, c.requires.in_bounds.4))
 
 pub slice_bounds-add-end : goal.slice_bounds-add-end
 slice_bounds-add-end c =
-    sym (pad_kept c.stream_bytes-whole.result c.key_stream.new.1.1.1.0 c.key_stream.auto.1.1.1.0)
+    sym (pad_kept c.stream_bytes-whole.result c.key_stream.new.pad c.key_stream.auto.pad)
 
 pub add-requires : goal.add-requires
 add-requires c =
-    let size = pad_kept c.stream_bytes-whole.result c.key_stream.new.1.1.1.0 c.key_stream.auto.1.1.1.0 in
-    (c.requires.0.3, omega (arith, size, c.requires.0.2), c.requires.1)
+    let size = pad_kept c.stream_bytes-whole.result c.key_stream.new.pad c.key_stream.auto.pad in
+    (c.requires.in_bounds.3, omega (arith, size, c.requires.in_bounds.2), c.requires.out_len)
 
 pub returns : goal.returns
 returns c =
     let fits = c.stream_bytes-whole.ensures in
     λ key e.
-    batch_turned key _ _ _ _ _ _ _ c.requires.0.1 c.requires.0.3 fits.0 fits.1 (pad_part c.stream_bytes-whole.result fits.2)
+    batch_turned key _ _ _ _ _ _ _ c.requires.in_bounds.1 c.requires.in_bounds.3 fits.0 fits.1 (pad_part c.stream_bytes-whole.result fits.2)
     (c.key_stream.ensures key e) c.add.ensures

@@ -25,7 +25,7 @@ pub returns-in-Refused-measured : goal.returns-in-Refused-measured
 returns-in-Refused-measured c =
     c.stopped-in-Refused-measured.ensures
     ∙ walking_stopped c.loop-cause.invariant c.record_at-opened.ensures c.in-Record.is _ c.measure_edit-measured.ensures
-    c.decreases.given.1
+    c.in-Refused-measured.is
 
 pub charge-bound-requires : goal.charge-bound-requires
 charge-bound-requires c =

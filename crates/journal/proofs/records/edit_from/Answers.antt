@@ -21,5 +21,4 @@ returns-in-4 c = spans-drop _ _ _ _ c.in-4.is
 
 pub returns-in_default : goal.returns-in_default
 returns-in_default c =
-    let others = c.in-1.rest in
-    spans-cut _ _ _ _ others.0.0.0.1 others.0.0.1 others.0.1 others.1
+    search (rules, spans-cut)

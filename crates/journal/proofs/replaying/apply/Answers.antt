@@ -26,8 +26,7 @@ bytes_of-requires-in-CutTail c = subst (InsideEdit _) c.in-CutTail.is c.requires
 
 pub returns-in-Change : goal.returns-in-Change
 returns-in-Change c =
-    let arm = c.edit-1.given in
-    applied_as _ _ arm.1 (ap₂ (keeper.change arm.0.0) c.bytes_of.ensures c.bytes_of-in-Change.ensures) c.change.ensures
+    applied_as _ _ c.in-Change.is (ap₂ (keeper.change c.in-Change.p) c.bytes_of.ensures c.bytes_of-in-Change.ensures) c.change.ensures
 
 pub returns-in-Append : goal.returns-in-Append
 returns-in-Append c = applied_as _ _ c.in-Append.is (ap keeper.append c.bytes_of-in-Append.ensures) c.append.ensures

@@ -1,7 +1,6 @@
 -- `cipher::keys::Key::encrypt` meets its contract. AES is the cipher over the rows of the key's schedule.
 use Rattle.cipher.proofs.Whole.{aes-rows}
 use mathlib.Core.Path.{◌∙◌}
-use borrow.Author.Rules.{rules}
 use Rattle.cipher.proofs.keys.Key.encrypt.Goals as goal
 
 pub returns : goal.returns

@@ -1,5 +1,4 @@
 -- `field::blocks::Block::write` meets its contract. Both words written one behind the other are the block's bytes (`Packed`).
-use borrow.Author.Rules.{rules}
 use native.Mathlib.Omega.{arith}
 use Rattle.field.proofs.Packed.{bytes_of-words}
 use Rattle.field.proofs.blocks.Block.write.Goals as goal

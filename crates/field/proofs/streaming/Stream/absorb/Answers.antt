@@ -1,6 +1,5 @@
 -- `field::streaming::Stream::absorb` meets its contract. Field by field, by what `run` gives.
 use Prim.Native.Nat.{◌+◌}
-use borrow.Author.Rules.{rules}
 use lib.ListN.{length}
 use Rattle.field.specs.Clauses.{absorbed}
 use Rattle.field.proofs.streaming.Stream.absorb.Goals as goal
