@@ -6,34 +6,53 @@
 ghost use Rattle.std.specs.Prelude.{◌+◌, ◌<◌, ◌≤◌, length};
 
 use cipher::Answer;
-use libc::{STDIN_FILENO, STDOUT_FILENO};
+use std::io::Read;
 
 // Prints the comments as they stand, for each PLAINTEXT line the CIPHERTEXT line, and at the end the number of blocks.
-fn main() {
-    let mut text = io::large_buffer();
-    let n = io::read_full(STDIN_FILENO, &mut text);
+fn main(rt: HostRuntime) {
+    let mut text = [0u8; 65536];
+    let n = read_full(&rt, &mut text);
     if n == text.len() {
-        io::write_all(STDOUT_FILENO, b"input too long\n");
+        say(&rt, b"input too long\n");
         return;
     }
-    let blocks = run(&text[..n]);
-    io::write_all(STDOUT_FILENO, b"blocks ");
-    io::print_decimal(STDOUT_FILENO, blocks as u64);
-    io::write_all(STDOUT_FILENO, b"\n");
+    let blocks = run(&rt, &text[..n]);
+    say(&rt, b"blocks ");
+    let _ = rt.println(blocks);
+}
+
+// Reads until the buffer is full, the input ends or a read fails, and answers how many bytes it put at the buffer's start.
+fn read_full(rt: &HostRuntime, buf: &mut [u8]) -> usize
+    ensures { result ≤ length buf.new }
+{
+    let mut stdin = rt.stdin();
+    let mut n = 0;
+    while n < buf.len() {
+        match stdin.read(&mut buf[n..]) {
+            Ok(0) | Err(_) => return n,
+            Ok(k) => n += k,
+        }
+    }
+    n
+}
+
+// Writes a text. What can't be written is lost.
+fn say(rt: &impl Print, text: &[u8]) {
+    let _ = rt.write_all(text);
 }
 
 // Goes through the lines, and answers how many blocks were encrypted.
-fn run(text: &[u8]) -> usize {
+fn run(rt: &impl Print, text: &[u8]) -> usize {
     let mut key = [0u8; 16];
     let mut blocks = 0;
     let mut at = 0;
     while at < text.len() {
         let next = next_line(text, at);
         let line = &text[at..next];
-        print_comment(line);
+        print_comment(rt, line);
         let k = key_after(line, key);
         key = k;
-        blocks += encrypt_line(line, key);
+        blocks += encrypt_line(rt, line, key);
         at = next;
     }
     blocks
@@ -52,9 +71,9 @@ fn next_line(text: &[u8], at: usize) -> usize
 }
 
 // Prints a comment as it stands.
-fn print_comment(line: &[u8]) {
+fn print_comment(rt: &impl Print, line: &[u8]) {
     if line.len() > 0 && line[0] == b'#' {
-        io::write_all(STDOUT_FILENO, line);
+        say(rt, line);
     }
 }
 
@@ -71,21 +90,21 @@ fn key_after(line: &[u8], key: [u8; 16]) -> [u8; 16] {
 }
 
 // Encrypts a PLAINTEXT line block by block, prints the CIPHERTEXT line, and answers how many blocks there were.
-fn encrypt_line(line: &[u8], key: [u8; 16]) -> usize
+fn encrypt_line(rt: &impl Print, line: &[u8], key: [u8; 16]) -> usize
     ensures { result ≤ length line.now }
 {
     let mut at = after(line, b"PLAINTEXT = ");
     if at == 0 {
         return 0;
     }
-    io::write_all(STDOUT_FILENO, b"CIPHERTEXT = ");
+    say(rt, b"CIPHERTEXT = ");
     let mut blocks = 0;
     while line.len() - at >= 32 {
-        print_encrypted(key, block_at(line, at));
+        print_encrypted(rt, key, block_at(line, at));
         at += 32;
         blocks += 1;
     }
-    io::write_all(STDOUT_FILENO, b"\n");
+    say(rt, b"\n");
     blocks
 }
 
@@ -138,26 +157,25 @@ fn value(c: u8) -> u8
 }
 
 // Encrypts one block and prints the result. No call is refused, since the arrays have 16 bytes: `refused` would be a fault.
-fn print_encrypted(key: [u8; 16], block: [u8; 16]) {
+fn print_encrypted(rt: &impl Print, key: [u8; 16], block: [u8; 16]) {
     let mut out = [0u8; 16];
     match cipher::encrypt(&key, &block, &mut out) {
-        Answer::Done => print_bytes(out),
-        Answer::Refused(_) => {
-            io::write_all(STDOUT_FILENO, b"refused");
-        }
+        Answer::Done => print_bytes(rt, out),
+        Answer::Refused(_) => say(rt, b"refused"),
     }
 }
 
 // Prints bytes as hex digits in lower case.
-fn print_bytes(s: [u8; 16]) {
+fn print_bytes(rt: &impl Print, s: [u8; 16]) {
     let mut i = 0;
     while i < 16 {
-        io::print_hex(STDOUT_FILENO, wide(s[i]), 2);
+        let x = wide(s[i]);
+        let _ = print!(rt; "{x:02x}");
         i += 1;
     }
 }
 
-// A byte as the number that `print_hex` takes.
+// A byte as the number that is printed.
 fn wide(x: u8) -> u64 {
     x as u64
 }

@@ -11,7 +11,7 @@ use Rattle.field.specs.declared.blocks.Block.{Block}
 use Rattle.field.specs.Field.{bytes_of, block_at, sum, max_bytes, Whole, JoinAnswer, joined_to, joined, sums_of, lengths_of}
 use Rattle.field.proofs.BlockAt.{block_at-bytes_of, length-block_bytes}
 use Rattle.field.proofs.Joins.{parts_join}
-use Rattle.gcm.specs.Gcm.{hash_key, gmac, tag_of}
+use Rattle.gcm.specs.Gcm.{hash_key, tag_of}
 use Rattle.gcm.proofs.TagLaws.{small-hash, tag-gmac}
 use Rattle.file.specs.declared.states.State.{State}
 use Rattle.file.specs.States.{state_of, Start, Reading, read_file}

@@ -24,7 +24,7 @@ use Rattle.file.specs.declared.slips.Opened.TheVariants as opened
 use Rattle.file.specs.States.{key_of}
 use Rattle.file.specs.Slips.{slip_bytes, packed_slip, slip_length, slip_arm, slip_number, slip_tag, nonce_of, state_tag, SlipFields, opened_with}
 use Rattle.file.specs.Slips.{seal_refusal, SealAnswer, numbered, sealed_next, sealed, check_refusal, fitting, genuine, by_its_number, CheckAnswer, checked}
-use Rattle.file.specs.Clauses.{cause_number, answer_refusal, opened_of}
+use Rattle.file.specs.Clauses.{answer_refusal, opened_of}
 use Rattle.field.proofs.Stores.{stored-none, stored_next, stored-all}
 use Rattle.file.proofs.ShapeLaws.{cause_pos}
 

@@ -1,7 +1,7 @@
 // Standard input, read once at a time. Whether there may be more of it, and whether a read failed, this module alone can say.
 ghost use Rattle.std.specs.Prelude.{◌≡◌, ◌+◌, ◌≤◌, ◌<◌, ◌^◌, ltb, length};
 
-use libc::STDIN_FILENO;
+use std::io::Read;
 
 // Standard input after the reads so far: how many bytes they gave, whether there may be more, and whether one failed. With no more and no
 // failure the input has ended.
@@ -47,19 +47,20 @@ impl Input {
 
     // Reads once. A read that gives nothing is the input's end, or failed. The requires: something can be given, and the count of bytes has
     // room.
-    pub fn read(self, buf: &mut [u8]) -> Given
+    pub fn read(self, rt: &HostRuntime, buf: &mut [u8]) -> Given
         requires some { 0 < length buf.old }
         requires room { self.n + length buf.old < 2 ^ 64 }
         ensures within { result.n ≤ length buf.new }
         ensures going { result.input.more ≡ ltb 0 result.n }
         ensures counted { result.input.n ≡ self.n + result.n }
     {
-        let got = libc::read(STDIN_FILENO, buf);
-        let n = io::count(got, buf);
+        let got = rt.stdin().read(buf);
+        let failed = got.is_err();
+        let n = got.unwrap_or(0);
         let input = Input {
             n: self.n + n as u64,
             more: 0 < n,
-            failed: got < 0,
+            failed,
         };
         Given { input, n }
     }

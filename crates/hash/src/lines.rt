@@ -29,7 +29,9 @@ fn put(out: &mut [u8], at: usize, text: &[u8]) -> usize
     ensures place { result ≡ at + length text.now }
     ensures text { take result out.new ≡ take at out.old ++ text.now }
 {
-    at + bytes::copy(text, &mut out[at..])
+    let end = at + text.len();
+    out[at..end].copy_from_slice(text);
+    end
 }
 
 // Puts a word and a number's decimal digits behind it. The requires: the word fits, and 20 digits, the most that a number of 64 bits has.

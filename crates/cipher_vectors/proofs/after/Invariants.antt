@@ -1,5 +1,4 @@
 -- `cipher_vectors::after` answers an index of the line.
-use borrow.Author.Rules.{rules}
 use Prim.Native.Nat.{◌-◌, ◌≤◌}
 use lib.ListN.{length}
 use Rattle.cipher_vectors.proofs.after.Given as goal

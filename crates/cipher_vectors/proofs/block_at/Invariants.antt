@@ -1,5 +1,4 @@
 -- `cipher_vectors::block_at` reads within the line.
-use borrow.Author.Rules.{rules}
 use Prim.Native.Nat.{◌-◌}
 use Rattle.cipher_vectors.proofs.block_at.Given as goal
 

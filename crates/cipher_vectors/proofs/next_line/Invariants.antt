@@ -1,5 +1,4 @@
 -- `cipher_vectors::next_line` goes on by a byte at least, and stays in the text.
-use borrow.Author.Rules.{rules}
 use Prim.Native.Nat.{◌-◌, ◌≤◌, ◌<◌}
 use lib.ListN.{length}
 use Rattle.cipher_vectors.proofs.next_line.Given as goal

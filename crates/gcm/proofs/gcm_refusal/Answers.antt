@@ -1,7 +1,6 @@
 -- `gcm::gcm_refusal` meets its contract. Each return is a cause of the list.
 use mathlib.Core.Path.{sym, ap, ◌∙◌}
 use mathlib.Core.Bool.{not}
-use borrow.Author.Rules.{rules}
 use borrow.Author.Tests.{eq-eqb}
 use Rattle.refusals.proofs.Laws.{first_here, first_later, differ, agree}
 use Rattle.gcm.specs.Answers.{gcm_refusal}

@@ -1,7 +1,6 @@
 -- `gcm::gmac` meets its contract. A refusal leaves the output as it was, and where there is none all lengths fit and GMAC is written
 -- (`GmacLaws`).
 use native.Mathlib.Omega.{arith}
-use borrow.Author.Rules.{rules}
 use Rattle.gcm.proofs.GmacLaws.{gmac-told, gmac-refused, gmac-fits, gmac_done}
 use Rattle.gcm.proofs.gmac.Goals as goal
 

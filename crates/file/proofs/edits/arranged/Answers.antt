@@ -1,5 +1,4 @@
 -- `file::edits::arranged` meets its contract. Each arm is its row of document 01's table (`EditReturns`).
-use borrow.Author.Rules.{rules}
 use Rattle.file.proofs.EditReturns.{factors-change, factors-append, factors-prepend, factors-drop, factors-cut}
 use Rattle.file.proofs.edits.arranged.Goals as goal
 

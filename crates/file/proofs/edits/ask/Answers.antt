@@ -1,6 +1,5 @@
 -- `file::edits::ask` meets its contract. The shape that was measured is that of an accepted edit; each return by its own law (`EditReturns`).
 use native.Mathlib.Omega.{arith}
-use borrow.Author.Rules.{rules}
 use Rattle.file.proofs.EditReturns.{ask_refused, ask-nothing, ask_done, fits-placed}
 use Rattle.file.proofs.edits.ask.Goals as goal
 

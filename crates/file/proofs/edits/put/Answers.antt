@@ -1,5 +1,4 @@
 -- `file::edits::put` meets its contract. Each return by its own law (`EditReturns`).
-use borrow.Author.Rules.{rules}
 use Rattle.file.proofs.EditReturns.{put_refused, put_done}
 use Rattle.file.proofs.edits.put.Goals as goal
 

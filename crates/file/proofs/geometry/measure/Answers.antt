@@ -1,6 +1,5 @@
 -- `file::geometry::measure` meets its contract. The refusal decides; each return by its own law (`ShapeLaws`).
 use native.Mathlib.Omega.{arith}
-use borrow.Author.Rules.{rules}
 use Rattle.file.proofs.ShapeLaws.{measured-refused, measured-accepted, measured-fits, same_length, geometry-nothing}
 use Rattle.file.proofs.geometry.measure.Goals as goal
 

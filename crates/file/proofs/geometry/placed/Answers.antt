@@ -2,7 +2,6 @@
 -- first (`ShapeLaws`).
 use Prim.Native.Nat.{◌+◌}
 use native.Mathlib.Omega.{arith}
-use borrow.Author.Rules.{rules}
 use Rattle.field.proofs.BlockCounts.{blocks-value, blocks-mono}
 use Rattle.file.proofs.ShapeLaws.{placed-counted}
 use Rattle.file.proofs.geometry.placed.Goals as goal

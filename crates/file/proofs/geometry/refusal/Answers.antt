@@ -1,6 +1,5 @@
 -- `file::geometry::refusal` meets its contract. Each return by its own law (`ShapeLaws`).
 use native.Mathlib.Omega.{arith}
-use borrow.Author.Rules.{rules}
 use Rattle.file.proofs.ShapeLaws.{past_limit, change-unequal, change-within, append-room, prepend-broken, prepend-room}
 use Rattle.file.proofs.ShapeLaws.{drop-broken, drop-within, cut-within}
 use Rattle.file.proofs.geometry.refusal.Goals as goal

@@ -1,7 +1,6 @@
 -- `file::geometry::room` meets its contract. Each return is a place of the list of causes.
 use Prim.Native.Nat.{◌+◌, ◌<◌, ◌≤◌}
 use native.Mathlib.Omega.{arith}
-use borrow.Author.Rules.{rules}
 use borrow.Author.Tests.{lt-ltb, le-ltb}
 use Rattle.field.specs.Field.{max_bytes}
 use Rattle.refusals.proofs.Laws.{first_none, first_here, first_later}

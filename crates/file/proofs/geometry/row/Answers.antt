@@ -1,7 +1,6 @@
 -- `file::geometry::row` meets its contract. In each arm the lengths of an accepted edit of that kind (`Accepted`) bound the sums and
 -- differences, and the arm's row is the geometry (`ShapeLaws`).
 use native.Mathlib.Omega.{arith}
-use borrow.Author.Rules.{rules}
 use Rattle.file.specs.declared.geometry.Kind.TheVariants.{Change, Append, Prepend, DropFront, CutTail}
 use Rattle.file.proofs.Accepted.{accepted_as}
 use Rattle.file.proofs.ShapeLaws.{row-change, row-append, row-prepend, row_drop, row_cut}

@@ -1,5 +1,4 @@
 -- `file::sealing::refusal` meets its contract: the answer is read off what the slip is known to have opened to (`SealReturns`).
-use borrow.Author.Rules.{rules}
 use Rattle.file.proofs.SealReturns.{refusal-told}
 use Rattle.file.proofs.sealing.refusal.Goals as goal
 

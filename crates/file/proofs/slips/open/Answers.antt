@@ -1,6 +1,5 @@
 -- `file::slips::open` meets its contract. Each return by its own law of `SlipLaws`: refusals 7 and 8, and the fields.
 use native.Mathlib.Omega.{arith}
-use borrow.Author.Rules.{rules}
 use Rattle.field.proofs.Bytes.{number_lt}
 use Rattle.file.proofs.SlipLaws.{open_size, open_version, open_done}
 use Rattle.file.proofs.slips.open.Goals as goal

@@ -1,5 +1,4 @@
 -- `file::slips::open_for` meets its contract. Each return by its own law (`SlipLaws`).
-use borrow.Author.Rules.{rules}
 use Rattle.file.proofs.SlipLaws.{open_long, open_short}
 use Rattle.file.proofs.slips.open_for.Goals as goal
 

@@ -1,6 +1,5 @@
 -- `file::slips::write` meets its contract. The five words stored one behind the other are the slip's bytes (`SlipLaws`).
 use native.Mathlib.Omega.{arith}
-use borrow.Author.Rules.{rules}
 use Rattle.field.specs.Field.{Small}
 use Rattle.file.proofs.SlipLaws.{slip-stored}
 use Rattle.file.proofs.slips.write.Goals as goal

@@ -1,7 +1,6 @@
 -- `file::states::begin_refusal` meets its contract. Each return is a place of the list of causes.
 use mathlib.Core.Path.{sym, ap, ◌∙◌}
 use mathlib.Core.Bool.{not}
-use borrow.Author.Rules.{rules}
 use borrow.Author.Tests.{lt-ltb, le-ltb}
 use Rattle.refusals.proofs.Laws.{first_none, first_here, first_later}
 use Rattle.file.specs.States.{begin_refusal}

@@ -1,9 +1,7 @@
 -- `gcm::counters::add` meets its contract. The loop's invariant: the first k bytes of the sum are written (`Batches`).
-use Prim.Native.Nat.{◌-◌}
 use native.Mathlib.Omega.{arith}
-use borrow.Author.Rules.{rules}
-use Rattle.field.proofs.Stores.{Copied, copied_none}
-use Rattle.gcm.proofs.Batches.{added, added_next, added_done}
+use Rattle.field.proofs.Stores.{copied_none}
+use Rattle.gcm.proofs.Batches.{added_next, added_done}
 use Rattle.gcm.proofs.counters.add.Goals as goal
 
 pub loop-k-init : goal.loop-k-init

@@ -1,8 +1,6 @@
 -- `gcm::counters::fill_counters` meets its contract. The loop's invariant: the counter blocks before `at` are written (`Batches`).
-use Prim.Native.Nat.{◌-◌}
 use native.Mathlib.Omega.{arith}
-use lib.ListN.{length}
-use Rattle.gcm.proofs.Batches.{Counting, counting_start, counting-length, counting-room, counting_next, counting_done}
+use Rattle.gcm.proofs.Batches.{counting_start, counting-length, counting-room, counting_next, counting_done}
 use Rattle.gcm.proofs.counters.fill_counters.Goals as goal
 
 pub loop-at-init : goal.loop-at-init

@@ -1,6 +1,5 @@
 -- `gcm::counters::key_stream` meets its contract. Counter blocks, and their ciphers (`CounterLaws`).
 use native.Mathlib.Omega.{arith}
-use borrow.Author.Rules.{rules}
 use Rattle.gcm.proofs.CounterLaws.{stream_of}
 use Rattle.gcm.proofs.counters.key_stream.Goals as goal
 

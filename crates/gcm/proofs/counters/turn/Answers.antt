@@ -2,7 +2,6 @@
 use mathlib.Core.Path.{sym}
 use Rattle.gcm.proofs.Batches.{pad_part, pad_kept, batch_turned}
 use native.Mathlib.Omega.{arith}
-use borrow.Author.Rules.{rules}
 use Rattle.gcm.proofs.counters.turn.Goals as goal
 
 pub slice_bounds-key_stream-end : goal.slice_bounds-key_stream-end

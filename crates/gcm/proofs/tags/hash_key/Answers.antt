@@ -1,5 +1,4 @@
 -- `gcm::tags::hash_key` meets its contract. The cipher of sixteen zero bytes, as a block (`TagLaws`).
-use borrow.Author.Rules.{rules}
 use Rattle.gcm.proofs.TagLaws.{hash-key_of}
 use Rattle.gcm.proofs.tags.hash_key.Goals as goal
 

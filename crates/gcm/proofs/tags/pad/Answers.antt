@@ -1,5 +1,4 @@
 -- `gcm::tags::pad` meets its contract. The cipher of J, as a block (`TagLaws`).
-use borrow.Author.Rules.{rules}
 use Rattle.gcm.proofs.TagLaws.{pad_of}
 use Rattle.gcm.proofs.tags.pad.Goals as goal
 

@@ -1,5 +1,4 @@
 -- `gcm::tags::tag` meets its contract. The closed sum and the pad (`TagLaws`).
-use borrow.Author.Rules.{rules}
 use Rattle.gcm.proofs.TagLaws.{tag-of}
 use Rattle.gcm.proofs.tags.tag.Goals as goal
 

@@ -1,5 +1,4 @@
 -- `gcm::texts::begin` meets its contract. The key's schedule, the cipher of the zero block, and J (`TextLaws`).
-use borrow.Author.Rules.{rules}
 use Rattle.gcm.proofs.TextLaws.{begins}
 use Rattle.gcm.proofs.texts.begin.Goals as goal
 

@@ -1,6 +1,5 @@
 -- `gcm::texts::tag_fits` meets its contract. Two blocks are the same exactly where their bytes are (`Comparing`).
 use native.Mathlib.Omega.{arith}
-use borrow.Author.Rules.{rules}
 use Rattle.gcm.proofs.Comparing.{tag-fits_of}
 use Rattle.gcm.proofs.texts.tag_fits.Goals as goal
 

@@ -1,5 +1,4 @@
 -- `gcm::texts::text_tag` meets its contract. The hash and the cipher of J, added (`TextLaws`).
-use borrow.Author.Rules.{rules}
 use Rattle.gcm.proofs.TextLaws.{tag-text}
 use Rattle.gcm.proofs.texts.text_tag.Goals as goal
 

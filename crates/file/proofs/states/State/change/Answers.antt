@@ -1,7 +1,6 @@
 -- `file::states::State::change` meets its contract. An edit of its kind is asked for, then put (`EditReturns`).
 use mathlib.Core.Logic.{inl}
 use mathlib.Core.Path.{refl}
-use borrow.Author.Rules.{rules}
 use Rattle.file.specs.Edits.{kind_of, place_of, given, replacing, geometry_at}
 use Rattle.file.specs.Edits as edits
 use Rattle.file.specs.States.{asked}

@@ -1,7 +1,6 @@
 -- `file::states::State::check` meets its contract. Each return by its own law of `SealReturns`: the refusals, a wrong length, a wrong arm, and the two
 -- verdicts on the tag.
 use mathlib.Core.Path.{refl, sym, ◌∙◌}
-use borrow.Author.Rules.{rules}
 use Rattle.file.proofs.SealReturns.{check-refused, check-short, check-length, check-arm, check-tag}
 use Rattle.file.proofs.states.State.check.Goals as goal
 

@@ -2,7 +2,6 @@
 -- (`EditReturns`).
 use mathlib.Core.Logic.{inr}
 use mathlib.Core.Path.{refl}
-use borrow.Author.Rules.{rules}
 use Rattle.file.specs.Edits.{kind_of, place_of, given, replacing, geometry_at}
 use Rattle.file.specs.Edits as edits
 use Rattle.file.specs.States.{asked}

@@ -1,5 +1,4 @@
 -- `file::states::State::read` meets its contract. Each return by its own law (`StateReturns`).
-use borrow.Author.Rules.{rules}
 use Rattle.field.specs.declared.blocks.Block.{Block}
 use Rattle.field.specs.Field.{sum}
 use Rattle.file.specs.States.{read_file}

@@ -1,7 +1,6 @@
 -- `file::states::State::seal` meets its contract. A refusal leaves state and slip as they were, and where there is none the slip is written
 -- (`SealReturns`).
 use native.Mathlib.Omega.{arith}
-use borrow.Author.Rules.{rules}
 use Rattle.file.specs.Slips.{numbered}
 use Rattle.file.proofs.SealReturns.{seal-refused, seal-passed, seal_done}
 use Rattle.file.proofs.states.State.seal.Goals as goal

@@ -1,5 +1,4 @@
 -- `file::states::State::tag_under` meets its contract. The nonce is the bytes of arm and number (`SealReturns`).
-use borrow.Author.Rules.{rules}
 use Rattle.file.proofs.SealReturns.{state-tag}
 use Rattle.file.proofs.states.State.tag_under.Goals as goal
 
