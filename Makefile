@@ -3,21 +3,22 @@
 
 # Build what there is to run, and run it on small examples.
 run:
-	rt check hash demo cipher_vectors
+	for program in hash demo cipher_vectors; do (cd crates/$$program && rt run <"$$(ls stdin 2>/dev/null || echo /dev/null)" >/dev/null) || exit 1; done
 	@echo; echo "document 01's example for the hash program:"
-	printf '\200\0\0\0\0\0\0\0\0\0\0\0\0\0\0\0\1' | target/bin/hash
+	printf '\200\0\0\0\0\0\0\0\0\0\0\0\0\0\0\0\1' | crates/hash/out/hash
 	@echo; echo "one file's life:"
-	target/bin/demo
+	crates/demo/out/demo
 	@echo; echo "FIPS 197's examples for the cipher:"
-	head -n 11 crates/cipher_vectors/stdin | target/bin/cipher_vectors
+	head -n 11 crates/cipher_vectors/stdin | crates/cipher_vectors/out/cipher_vectors
 
 # The static library that C and Rust programs link, and its header, in target/lib. It needs no other library.
 LAYERS = crates/refusals crates/planes crates/clmul crates/cipher crates/field crates/gcm crates/file crates/journal crates/capi
 lib: target/lib/libarmfile.a target/lib/armfile.h
-target/lib/libarmfile.a: crates.txt $(shell find $(LAYERS) -name '*.rt' -o -name '*.antt')
-	rt staticlib capi
+target/lib/libarmfile.a: crates/capi/out/libcapi.a
 	mkdir -p target/lib
-	cp target/staticlib/libcapi.a $@
+	cp $< $@
+crates/capi/out/libcapi.a: crates.txt $(shell find $(LAYERS) -name out -prune -o -name '*.rt' -print -o -name '*.antt' -print)
+	cd crates/capi && rt lib
 target/lib/armfile.h: include/armfile.h
 	mkdir -p target/lib
 	cp include/armfile.h $@
