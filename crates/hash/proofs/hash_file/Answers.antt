@@ -28,13 +28,21 @@ loop-h-preserved c =
     let b = c.loop-h.invariant in
     let room : c.loop-h.stream.n + fill.result.n ≤ max_bytes = omega (arith, c.if-stream-n.false, took-fits b.took) in
     between_more b _ _ _ _ (full fill.ensures.within fill.ensures.full (search rules)) fill.auto.buf fill.ensures.counted room
-        c.absorb-longer.ensures
+    c.absorb-longer.ensures
 
 pub loop-h-smaller : goal.loop-h-smaller
 loop-h-smaller c =
     let fill = c.fill-given in
     let b = c.loop-h.invariant in
     let b' = loop-h-preserved c in
-    omega
-    (arith, took-count b.took, b.took.all, fill.ensures.counted, full fill.ensures.within fill.ensures.full (search rules), b'.size,
-    took-count b'.took, b'.took.all, b'.took.fits)
+    omega (
+      arith,
+      took-count b.took,
+      b.took.all,
+      fill.ensures.counted,
+      full fill.ensures.within fill.ensures.full (search rules),
+      b'.size,
+      took-count b'.took,
+      b'.took.all,
+      b'.took.fits,
+    )

@@ -7,4 +7,4 @@ pub returns-clause-text : goal.returns-clause-text
 unfolding ascii
 returns-clause-text c =
     lines-text c.args.n c.args.hash c.blocks-2.ensures c.put_count-a.ensures.text c.put_count-b.ensures.text c.put-c.ensures.text
-        c.put_block-d.ensures.text c.put.ensures.text
+    c.put_block-d.ensures.text c.put.ensures.text

@@ -6,4 +6,4 @@ use Rattle.hash.proofs.lines.put_count.Goals as goal
 pub returns-clause-text : goal.returns-clause-text
 returns-clause-text c =
     count-text (take c.args.at c.args.out.now) c.args.word.now c.args.n c.put-after.ensures.text c.put.ensures.text
-        c.decimal-k.ensures.digits (search rules) c.decimal-k.ensures.len
+    c.decimal-k.ensures.digits (search rules) c.decimal-k.ensures.len
