@@ -1,5 +1,5 @@
 # Thin names over rt and the gate.
-.PHONY: run lib example cost stack bench test
+.PHONY: run lib example cost stack memory bench test
 
 # Build what there is to run, and run it on small examples.
 run:
@@ -14,9 +14,16 @@ run:
 # The static library that C and Rust programs link, and its header, in target/lib. It needs no other library.
 LAYERS = crates/refusals crates/planes crates/clmul crates/cipher crates/field crates/gcm crates/file crates/journal crates/capi
 lib: target/lib/libarmfile.a target/lib/armfile.h
-target/lib/libarmfile.a: crates/capi/out/libcapi.a
+# What the compiler's back end calls, memset and memcpy, is joined to it, and hidden.
+target/lib/libarmfile.a: crates/capi/out/libcapi.a target/memory/memory.o
 	mkdir -p target/lib
-	cp $< $@
+	ld -r -o target/memory/armfile.o --whole-archive crates/capi/out/libcapi.a --no-whole-archive target/memory/memory.o
+	objcopy --localize-symbol=memset --localize-symbol=memcpy target/memory/armfile.o
+	rm -f $@
+	ar rcs $@ target/memory/armfile.o
+target/memory/memory.o: runtime/memory.S
+	mkdir -p target/memory
+	$(CC) -c $< -o $@
 crates/capi/out/libcapi.a: crates.txt $(shell find $(LAYERS) -name out -prune -o -name '*.rt' -print -o -name '*.antt' -print)
 	cd crates/capi && rt lib
 target/lib/armfile.h: include/armfile.h
@@ -40,6 +47,12 @@ stack: lib
 	mkdir -p target/example
 	$(CC) -std=c11 -Wall -Wextra -Werror -O2 -Itarget/lib tests/stack/stack.c target/lib/libarmfile.a -lpthread -o target/example/stack
 	target/example/stack
+
+# The library's memset and memcpy beside loops of bytes.
+memory: target/memory/memory.o
+	objcopy --redefine-sym memset=armfile_test_memset --redefine-sym memcpy=armfile_test_memcpy $< target/memory/renamed.o
+	$(CC) -std=c11 -Wall -Wextra -Werror -O1 tests/memory/memory.c target/memory/renamed.o -o target/memory/memory
+	target/memory/memory
 
 # The library's speed beside other libraries'; it installs Debian's packages of them where they are missing.
 bench:
