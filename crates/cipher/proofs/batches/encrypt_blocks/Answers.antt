@@ -15,7 +15,7 @@ overflow_add-next c =
 pub encrypt_portion-requires : goal.encrypt_portion-requires
 encrypt_portion-requires c = record {
   in_bounds = c.requires.0;
-  blocks_len = portion_size c.portion.ensures _ _ c.encrypt_portion-arg-1.given.2;
+  blocks_len = portion_size c.portion.ensures _ c.loop-at.at (omega arith);
 }
 
 pub loop-at-smaller : goal.loop-at-smaller

@@ -9,7 +9,7 @@ pub loop-i-init : goal.loop-i-init
 loop-i-init c = blocks_start _ _ _ _ _ c.requires
 
 pub write-requires : goal.write-requires
-write-requires c = c.write-arg-1.given.2 ∙ omega arith
+write-requires c = omega arith
 
 pub loop-i-preserved : goal.loop-i-preserved
 unfolding block_in

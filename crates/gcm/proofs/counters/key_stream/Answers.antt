@@ -6,4 +6,4 @@ use Rattle.gcm.proofs.counters.key_stream.Goals as goal
 pub returns : goal.returns
 returns c =
     λ key e.
-    stream_of key _ _ _ e c.fill_counters.ensures c.encrypt_blocks.ensures (λ i l. omega (arith, c.slice_known-3-1.given i))
+    stream_of key _ _ _ e c.fill_counters.ensures c.encrypt_blocks.ensures (λ i l. omega (arith, c.type_inv.pad i))
