@@ -1,5 +1,5 @@
--- The lines' text: what a part that is put at a place leaves there, and the digits that the kit's `decimal` and `hex` give. They rest on the
--- kit's definition of digits and on the field's law of a block's number.
+-- The lines' text, part by part, and the digits that the kit's `decimal` and `hex` give. They rest on the kit's definition of digits and on the
+-- field's law of a block's number.
 use mathlib.Core.Path.{◌≡◌, sym, ap, ap₂, ◌∙◌}
 use mathlib.Core.Bool.{Bool, cond}
 use mathlib.Core.List.{List, [], ◌∷◌, ◌++◌, append-nil, append_assoc}
@@ -8,31 +8,12 @@ use native.Mathlib.Nat.{add-suc, mul_assoc, pow-suc, mod-eq_of_lt, one-le-pow, p
 use native.Mathlib.Numerals.{unary_clauses}
 use native.Mathlib.Decide.{dec_lt}
 use native.Mathlib.Omega.{arith}
-use lib.ListN.{length, take}
-use lib.Seq.{length-take-le, take-length, take-append_seam, take-append-add}
-use borrow.Rule.Slice.PartMut.{put_mid, post_of}
 use borrow.Author.Tests.{lt-ltb, le-ltb}
 use Rattle.io.specs.Digits.{hex_digit_ascii, last_digits, IsDigitCount}
 use Rattle.field.specs.declared.blocks.Block.{Block}
 use Rattle.field.specs.Field.{value, Small, blocks}
 use Rattle.field.proofs.Values.{value-small}
 use Rattle.hash.specs.Lines.{ascii, decimal_within, decimal, hexadecimal, file_lines}
-
--- ---- a text at a place
-
--- a text copied to the place at: what stands up to its end
-pub put-text : (out text rest : List ℕ) (at : ℕ) {n : ℕ} {mid : List ℕ} → at ≤ length out → n ≡ length text
-    → mid ≡ take (length text) text ++ rest → take (at + n) (put_mid at (length out - at) out mid) ≡ take at out ++ text
-put-text out text rest at {n} {mid} within len e =
-    let k = length out - at in
-    let post = post_of at k out in
-    let start : at + n ≡ length (take at out) + length text = ap₂ ◌+◌ (sym (length-take-le at out within)) len in
-    let part : mid ++ post ≡ text ++ (rest ++ post) =
-    ap (λ (x : List ℕ). x ++ post) (e ∙ ap (λ (x : List ℕ). x ++ rest) (take-length text)) ∙ append_assoc text rest post in
-    ap (λ (x : ℕ). take x (put_mid at k out mid)) start
-    ∙ take-append-add (take at out) (mid ++ post) (length text)
-    ∙ ap (λ (x : List ℕ). take at out ++ take (length text) x) part
-    ∙ ap (λ (x : List ℕ). take at out ++ x) (take-append_seam text (rest ++ post))
 
 -- ---- digits
 

@@ -1,7 +1,7 @@
 -- `hash::hash_file`: what the loop keeps from chunk to chunk (`ReadingLaws`).
-use Rattle.std.proofs.Common.{rules, arith, sym, ◌≡◌, ◌+◌, ◌≤◌}
+use Rattle.std.proofs.Common.{rules, arith, sym, ◌+◌, ◌≤◌}
 use Rattle.field.specs.Field.{max_bytes}
-use Rattle.hash.proofs.ReadingLaws.{took-count, took-fits, took_more, full, Between, between_none, between_more}
+use Rattle.hash.proofs.ReadingLaws.{took-count, took-fits, took_more, full, between_none, between_more}
 use Rattle.hash.proofs.hash_file.Goals as goal
 
 pub loop-h-init : goal.loop-h-init
