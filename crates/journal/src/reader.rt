@@ -1,5 +1,5 @@
-// The reader: it stands at a place of the lent journal, opens what is there, and moves on. A struct that holds a slice is proved by hand, so its
-// functions are thin over `open_at`. Replay and forecast make one for each record; their loops hold the place.
+// The reader: it stands at a place of the lent journal, opens what is there, and moves on. Its functions are thin over `open_at`. Replay and forecast
+// make one for each record; their loops hold the place.
 ghost use Rattle.std.specs.Prelude.{◌≡◌};
 ghost use Rattle.journal.specs.Clauses.{OpenedAt};
 
@@ -35,8 +35,7 @@ pub fn open<'a>(r: Reader<'a>) -> Opened
     open_at(r.journal, r.place)
 }
 
-// Opens what stands at a place of a journal, by a reader. Replay and forecast read every record so: its parameters are plain, and so its callers
-// need no proof by hand.
+// Opens what stands at a place of a journal, by a reader. Replay and forecast read every record so.
 pub fn record_at(journal: &[u8], place: usize) -> Opened
     ensures { OpenedAt journal.now place result }
 {
