@@ -1,4 +1,6 @@
 // The bench cases of document 01 that are no theorems: each line names a case and prints the refusal's number, 0 where it was accepted.
+#![tactic(auto)]
+
 use field::hashing::MAX_BYTES;
 use file::{Answer, Answered, Outcome, SLIP_BYTES, State};
 use libc::STDOUT_FILENO;

@@ -11,7 +11,7 @@ use super::schedule::fill;
 pub const ROWS: usize = 11;
 
 // A cipher key.
-#[derive(Drop)]
+#[derive(Clone, Copy)]
 pub struct Key {
     pub bytes: [u8; 16],
 }

@@ -1,4 +1,6 @@
 // AES encryption of blocks (FIPS 197). This layer knows nothing of the field or of files.
+#![tactic(auto)]
+
 mod batches;
 mod kernel;
 mod keys;
@@ -14,7 +16,7 @@ use keys::sixteen;
 pub use keys::{Key, ROWS};
 
 // Why a block call is refused. Document 01's numbers for the causes are in specs/Clauses.
-#[derive(Drop)]
+#[derive(Clone, Copy)]
 pub enum Cause {
     // Key or block is not 16 bytes.
     InputLength,
@@ -22,7 +24,7 @@ pub enum Cause {
     OutputLength,
 }
 
-#[derive(Drop)]
+#[derive(Clone, Copy)]
 pub enum Answer {
     Done,
     Refused(Cause),

@@ -1,6 +1,8 @@
 // Runs the published vectors of AES-128 in `stdin`: FIPS 197's own examples, then NIST's. `stdout`, what this must print, comes
 // from the vectors and not from the cipher. In this crate's folder:
 //   awk '/^#|^CIPHERTEXT/; /^CIPHERTEXT/ { n += length($3) / 32 } END { print "blocks", n }' stdin > stdout
+#![tactic(auto)]
+
 ghost use Rattle.std.specs.Prelude.{◌+◌, ◌<◌, ◌≤◌, length};
 
 use cipher::Answer;

@@ -5,7 +5,7 @@ ghost use Rattle.clmul.specs.Halves;
 
 // The four planes of a half, plane i holding every fourth bit from bit i on, moved to bit 0, and the sums of them that Karatsuba's rule
 // multiplies. Also the nine products of two such.
-#[derive(Drop)]
+#[derive(Clone, Copy)]
 pub struct Mixtures {
     pub p0: u64,
     pub p1: u64,

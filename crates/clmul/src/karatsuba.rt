@@ -7,14 +7,14 @@ ghost use Rattle.clmul.specs.Tables.{double, wide};
 use super::halves::{half_product, half_square};
 
 // A number of two words.
-#[derive(Drop)]
+#[derive(Clone, Copy)]
 pub struct Double {
     pub hi: u64,
     pub lo: u64,
 }
 
 // A number of four words, w0 the lowest.
-#[derive(Drop)]
+#[derive(Clone, Copy)]
 pub struct Wide {
     pub w3: u64,
     pub w2: u64,

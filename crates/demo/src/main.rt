@@ -4,6 +4,8 @@
 // right bytes again on Friday; its slip is stale. After a restart the card is read once, and slips are checked. Each step prints the file's length, the
 // running sum and the count of products, or the forecast, or the slip, or the verdict, or a refusal's number. After a write that failed nothing more is
 // printed, and that is told on standard error.
+#![tactic(auto)]
+
 mod printing;
 
 use file::{SLIP_BYTES, State};

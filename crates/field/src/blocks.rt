@@ -6,7 +6,7 @@ ghost use Rattle.field.specs.Blocks.{◌⊕◌, block, block_at, bytes_of};
 use super::packing::{number_at, store, word_at};
 
 // A block. The leftmost bit, of weight 2^63 in hi, is the coefficient of x^0.
-#[derive(Drop)]
+#[derive(Clone, Copy)]
 pub struct Block {
     pub hi: u64,
     pub lo: u64,

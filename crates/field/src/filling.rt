@@ -10,7 +10,7 @@ use super::multiplying::{Count, Counted, counted_product};
 use super::summing::blocks;
 
 // The powers of H added up to some H^(k - 1), beside H^k, and the running count of the products that built them.
-#[derive(Drop)]
+#[derive(Clone, Copy)]
 struct Powers {
     sum: Block,
     next: Block,

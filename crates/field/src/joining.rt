@@ -13,7 +13,7 @@ use super::summing::blocks;
 use super::{Answer, Cause};
 
 // The sum and the length of the whole, those of the empty file where the join is refused, and the answer.
-#[derive(Drop)]
+#[derive(Clone, Copy)]
 pub struct Joined {
     pub sum: Block,
     pub length: u64,

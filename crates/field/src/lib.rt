@@ -1,5 +1,7 @@
 // GF(2^128) as SP 800-38D has it: blocks, products, powers, sums of bytes, GHASH, and the join of sums. This layer
 // knows nothing of the cipher or of files.
+#![tactic(auto)]
+
 mod batches;
 pub mod blocks;
 pub mod filling;
@@ -21,7 +23,7 @@ pub use joining::{Joined, join};
 use multiplying::{Count, counted_product};
 
 // Why a call is refused. Document 01's numbers for the causes are in specs/Clauses.
-#[derive(Drop)]
+#[derive(Clone, Copy)]
 pub enum Cause {
     // A block or the hash key is not sixteen bytes.
     InputLength,
@@ -35,7 +37,7 @@ pub enum Cause {
     SumsLength,
 }
 
-#[derive(Drop)]
+#[derive(Clone, Copy)]
 pub enum Answer {
     Done,
     Refused(Cause),

@@ -59,7 +59,7 @@ pub fn squared(a: Block) -> Block
 
 // A number of counted products. Its field is private, so that outside this file a count can only be begun at none, be raised by the
 // counted product and be read: no count comes about in another way.
-#[derive(Drop)]
+#[derive(Clone, Copy)]
 pub struct Count {
     raised: u64,
 }
@@ -81,7 +81,7 @@ impl Count {
 }
 
 // A product, and the running count with it counted.
-#[derive(Drop)]
+#[derive(Clone, Copy)]
 pub struct Counted {
     pub value: Block,
     pub count: Count,

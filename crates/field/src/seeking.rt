@@ -8,7 +8,7 @@ use super::blocks::Block;
 use super::multiplying::{Count, Counted, counted_product, squared};
 
 // A power, the steps it took, and the running count with them counted.
-#[derive(Drop)]
+#[derive(Clone, Copy)]
 pub struct Sought {
     pub power: Block,
     pub steps: u64,

@@ -9,7 +9,7 @@ use super::hashing::closed;
 use super::summing::run;
 
 // The key, the sum of the bytes taken so far, and how many they are.
-#[derive(Drop)]
+#[derive(Clone, Copy)]
 pub struct Stream {
     pub h: Block,
     pub y: Block,

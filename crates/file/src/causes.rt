@@ -2,7 +2,7 @@
 ghost use Rattle.std.specs.Prelude.{◌≡◌};
 ghost use Rattle.file.specs.Clauses.{cause_number};
 
-#[derive(Drop)]
+#[derive(Clone, Copy)]
 pub enum Cause {
     // The key is not 16 bytes.
     KeyLength,
@@ -44,7 +44,7 @@ impl Cause {
 }
 
 // What a call or a test answers that hands back no value.
-#[derive(Drop)]
+#[derive(Clone, Copy)]
 pub enum Answer {
     Done,
     Refused(Cause),

@@ -18,21 +18,21 @@ use field::seeking::times_power;
 use field::summing::fold;
 
 // What an edit makes of a state, before it is put there: the new sum and length, and the count of products.
-#[derive(Drop)]
+#[derive(Clone, Copy)]
 pub struct Moved {
     pub s: Block,
     pub n: u64,
     pub count: Count,
 }
 
-#[derive(Drop)]
+#[derive(Clone, Copy)]
 pub enum Reckoned {
     Refused(Cause),
     Fits(Moved),
 }
 
 // The new sum is x times base^k, plus added.
-#[derive(Drop)]
+#[derive(Clone, Copy)]
 struct Factors {
     x: Block,
     base: Block,

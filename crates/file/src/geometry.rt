@@ -11,7 +11,7 @@ use field::hashing::MAX_BYTES;
 use field::summing::blocks;
 
 // The five edits.
-#[derive(Drop)]
+#[derive(Clone, Copy)]
 pub enum Kind {
     Change,
     Append,
@@ -22,7 +22,7 @@ pub enum Kind {
 
 // How the given bytes stand in the file's blocks: lead zero bytes before them in the first of the q blocks they touch, the exponent k of
 // document 01's table, and the file's length afterwards.
-#[derive(Drop)]
+#[derive(Clone, Copy)]
 pub struct Shape {
     pub lead: u64,
     pub q: u64,
@@ -30,7 +30,7 @@ pub struct Shape {
     pub n: u64,
 }
 
-#[derive(Drop)]
+#[derive(Clone, Copy)]
 pub enum Measured {
     Refused(Cause),
     Fits(Shape),

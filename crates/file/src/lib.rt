@@ -1,5 +1,7 @@
 // The file keeper: the state that stands for a file, the five edits, asking for one and committing it, slip, seal and check. It stands above the cipher, the field and GMAC.
 // The public calls are the methods of State; `measure` serves the layers above.
+#![tactic(auto)]
+
 mod causes;
 mod edits;
 mod geometry;

@@ -15,7 +15,7 @@ use field::hashing::MAX_BYTES;
 use gcm::tags::same;
 
 // What an edit starts from: the state's key, sum and length.
-#[derive(Drop)]
+#[derive(Clone, Copy)]
 pub struct Origin {
     pub key: Key,
     pub s: Block,
@@ -23,7 +23,7 @@ pub struct Origin {
 }
 
 // A pending edit: the sum, length and count that it would give, and what it started from. It may arrive with any field values.
-#[derive(Drop)]
+#[derive(Clone, Copy)]
 pub struct Pending {
     pub s: Block,
     pub n: u64,
@@ -32,13 +32,13 @@ pub struct Pending {
 }
 
 // A pending edit, all zeros where it was refused, beside what the ask answered.
-#[derive(Drop)]
+#[derive(Clone, Copy)]
 pub struct Asked {
     pub pending: Pending,
     pub answer: Answer,
 }
 
-#[derive(Drop)]
+#[derive(Clone, Copy)]
 pub enum CommitOutcome {
     // Accepted, with the pending edit's count.
     Done(u64),
@@ -46,7 +46,7 @@ pub enum CommitOutcome {
 }
 
 // A state beside what the commit answered.
-#[derive(Drop)]
+#[derive(Clone, Copy)]
 pub struct Committed {
     pub state: State,
     pub outcome: CommitOutcome,

@@ -15,7 +15,7 @@ use gcm::tags::{same, tag};
 
 // What a check finds of a slip: it is not genuine; or it is, and its seal number is the last used one, a smaller or a larger. Only Current is
 // the slip of the newest seal: who takes every genuine slip takes an old card too.
-#[derive(Drop)]
+#[derive(Clone, Copy)]
 pub enum Verdict {
     // Its length, its arm or its tag is not that of the file held.
     NotGenuine,
@@ -28,14 +28,14 @@ pub enum Verdict {
 }
 
 // What check answers.
-#[derive(Drop)]
+#[derive(Clone, Copy)]
 pub enum Checked {
     Found(Verdict),
     Refused(Cause),
 }
 
 // A state beside what seal answered.
-#[derive(Drop)]
+#[derive(Clone, Copy)]
 pub struct Sealed {
     pub state: State,
     pub answer: Answer,

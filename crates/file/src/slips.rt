@@ -16,7 +16,7 @@ pub const SLIP_BYTES: usize = 36;
 const VERSION: u64 = 0x2000_0000_0000_0000;
 
 // A slip's fields but its version, which is 1.
-#[derive(Drop)]
+#[derive(Clone, Copy)]
 pub struct Fields {
     pub length: u64,
     pub arm: u32,
@@ -24,7 +24,7 @@ pub struct Fields {
     pub tag: Block,
 }
 
-#[derive(Drop)]
+#[derive(Clone, Copy)]
 pub enum Opened {
     Slip(Fields),
     Refused(Cause),

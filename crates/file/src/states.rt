@@ -15,7 +15,7 @@ use field::summing::sum;
 use gcm::tags::hash_key;
 
 // Document 01, "What the controller holds". It may arrive with any field values.
-#[derive(Drop)]
+#[derive(Clone, Copy)]
 pub struct State {
     pub key: Key,
     // The hash key H and its companion I.
@@ -29,7 +29,7 @@ pub struct State {
     pub last: u64,
 }
 
-#[derive(Drop)]
+#[derive(Clone, Copy)]
 pub enum Outcome {
     // Accepted; of an edit and of a start, with its count of products.
     Done(Count),
@@ -37,7 +37,7 @@ pub enum Outcome {
 }
 
 // A state beside what the call answered.
-#[derive(Drop)]
+#[derive(Clone, Copy)]
 pub struct Answered {
     pub state: State,
     pub outcome: Outcome,

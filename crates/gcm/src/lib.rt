@@ -1,4 +1,6 @@
 // GCM (NIST SP 800-38D): encryption and decryption of texts, and GMAC, which is GCM without a text. It stands above the cipher and the field.
+#![tactic(auto)]
+
 mod counters;
 pub mod tags;
 mod texts;
@@ -19,7 +21,7 @@ use texts::{begin, tag_fits, text_tag};
 const MAX_TEXT: u64 = 0xf_ffff_ffe0;
 
 // Why a call is refused. The papers' numbers for the causes are in specs/Clauses.
-#[derive(Drop)]
+#[derive(Clone, Copy)]
 pub enum Cause {
     // The key is not 16 bytes.
     KeyLength,
@@ -37,7 +39,7 @@ pub enum Cause {
     WrongTag,
 }
 
-#[derive(Drop)]
+#[derive(Clone, Copy)]
 pub enum Answer {
     Done,
     Refused(Cause),

@@ -13,7 +13,7 @@ use field::Block;
 use field::hashing::hash;
 
 // The hash key H, and J, under a key and a nonce.
-#[derive(Drop)]
+#[derive(Clone, Copy)]
 pub struct Begun {
     pub h: Block,
     pub j: [u8; 16],

@@ -5,7 +5,7 @@ use libc::STDIN_FILENO;
 
 // Standard input after the reads so far: how many bytes they gave, whether there may be more, and whether one failed. With no more and no
 // failure the input has ended.
-#[derive(Drop)]
+#[derive(Clone, Copy)]
 pub struct Input {
     n: u64,
     more: bool,
@@ -13,7 +13,7 @@ pub struct Input {
 }
 
 // What a buffer was given: that many bytes at its start, and the input after them.
-#[derive(Drop)]
+#[derive(Clone, Copy)]
 pub struct Given {
     pub input: Input,
     pub n: usize,

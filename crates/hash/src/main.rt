@@ -1,5 +1,7 @@
 // The hash program of document 01: standard input is 16 bytes of H and then the file, of any length. It prints the file's byte and block
 // counts and GHASH(H, file, nothing), or a refusal's number alone: 1 for less than 16 bytes of input, 2 for a file of more than 2^61 - 1.
+#![tactic(auto)]
+
 mod input;
 mod lines;
 

@@ -2,7 +2,7 @@
 ghost use Rattle.std.specs.Prelude.{◌≡◌};
 ghost use Rattle.journal.specs.Clauses.{cause_number};
 
-#[derive(Drop)]
+#[derive(Clone, Copy)]
 pub enum Cause {
     // The journal passes 2^40 bytes, or fewer bytes remain than a record needs.
     JournalLength,
@@ -29,7 +29,7 @@ impl Cause {
 }
 
 // What replay, forecast or a test answers.
-#[derive(Drop)]
+#[derive(Clone, Copy)]
 pub enum Answer {
     Done,
     Refused(Cause),

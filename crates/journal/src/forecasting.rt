@@ -15,7 +15,7 @@ use field::summing::blocks;
 use file::{Kind, Measured, Shape, measure};
 
 // What forecast answers: the most products that replay counts, the greatest length that the file reaches, and where replay stops.
-#[derive(Drop)]
+#[derive(Clone, Copy)]
 pub struct Forecasted {
     pub bound: u64,
     pub greatest: u64,

@@ -5,7 +5,7 @@ ghost use Rattle.journal.specs.Clauses.{OpenedAt};
 
 use super::records::{Opened, open_at};
 
-#[derive(Drop)]
+#[derive(Clone, Copy)]
 pub struct Reader<'a> {
     pub journal: &'a [u8],
     pub place: usize,

@@ -15,14 +15,14 @@ const HEAD_BYTES: usize = 12;
 const KIND: u64 = 0x2000_0000_0000_0000;
 
 // Where bytes of an edit stand in the journal: size bytes from a place on.
-#[derive(Drop)]
+#[derive(Clone, Copy)]
 pub struct Span {
     pub at: usize,
     pub size: usize,
 }
 
 // The five edits.
-#[derive(Drop)]
+#[derive(Clone, Copy)]
 pub enum Edit {
     Change { p: u64, old: Span, new: Span },
     Append(Span),
@@ -32,7 +32,7 @@ pub enum Edit {
 }
 
 // What stands at a place of a journal: a record's edit with the place behind it, a record that does not open, or the journal's end.
-#[derive(Drop)]
+#[derive(Clone, Copy)]
 pub enum Opened {
     Record(Edit, usize),
     Refused(Cause),
@@ -40,7 +40,7 @@ pub enum Opened {
 }
 
 // A record's head: its kind, its place and the length of its bytes.
-#[derive(Drop)]
+#[derive(Clone, Copy)]
 pub struct Head {
     pub kind: u64,
     pub p: u64,

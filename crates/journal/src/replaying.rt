@@ -15,7 +15,7 @@ use file::{Answered, Outcome, State};
 const MAX_JOURNAL: u64 = 0x100_0000_0000;
 
 // A state beside what replay answered: the products that it counted, and where it stopped.
-#[derive(Drop)]
+#[derive(Clone, Copy)]
 pub struct Replayed {
     pub state: State,
     pub count: u64,

@@ -1,0 +1,10 @@
+-- `capi::answers::keep_committed` meets its contract. Each return by its own law of `CallLaws`: a refusal, and the work done.
+use borrow.Author.Rules.{rules}
+use Rattle.capi.proofs.CallLaws.{committed-refused, committed_done}
+use Rattle.capi.proofs.answers.keep_committed.Goals as goal
+
+pub returns-in-Refused : goal.returns-in-Refused
+returns-in-Refused c = committed-refused _ _ _ c.in-Refused.is c.number.ensures
+
+pub returns-in-Done : goal.returns-in-Done
+returns-in-Done c = committed_done _ _ _ c.in-Done.is c.encode.ensures

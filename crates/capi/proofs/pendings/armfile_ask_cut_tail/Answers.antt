@@ -1,0 +1,7 @@
+-- `capi::pendings::armfile_ask_cut_tail` meets its contract. It is `State::ask_cut_tail` of the state that is read, kept where it is accepted (`CallLaws`).
+use borrow.Author.Rules.{rules}
+use Rattle.capi.proofs.CallLaws.{ask-call}
+use Rattle.capi.proofs.pendings.armfile_ask_cut_tail.Goals as goal
+
+pub returns : goal.returns
+returns c = ask-call _ _ _ c.decode-st.ensures c.ask_cut_tail.ensures c.keep_pending.ensures

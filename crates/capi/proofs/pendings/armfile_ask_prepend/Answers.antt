@@ -1,0 +1,7 @@
+-- `capi::pendings::armfile_ask_prepend` meets its contract. It is `State::ask_prepend` of the state that is read, kept where it is accepted (`CallLaws`).
+use borrow.Author.Rules.{rules}
+use Rattle.capi.proofs.CallLaws.{ask-call}
+use Rattle.capi.proofs.pendings.armfile_ask_prepend.Goals as goal
+
+pub returns : goal.returns
+returns c = ask-call _ _ _ c.decode-st.ensures c.ask_prepend.ensures c.keep_pending.ensures

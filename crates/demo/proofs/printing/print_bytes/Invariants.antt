@@ -1,0 +1,11 @@
+-- `demo::printing::print_bytes` is safe and ends. The loop's invariant: i is at most the length.
+use lib.ListN.{length}
+use borrow.Author.Rules.{rules}
+use Prim.Native.Nat.{◌-◌, ◌≤◌}
+use Rattle.demo.proofs.printing.print_bytes.Given as goal
+
+abbrev pub invariant-loop-i : goal.invariant-loop-i
+invariant-loop-i l = l.i ≤ length l.s
+
+abbrev pub decreases-loop-i : goal.decreases-loop-i
+decreases-loop-i l = length l.s - l.i
