@@ -33,7 +33,7 @@ impl Key {
     }
 
     // Serves the layers above: fills the rows that the caller holds with the key's schedule. Who encrypts many blocks does it once; handed over by
-    // value to several callers, the rows would be copied by the C library's memcpy.
+    // value to several callers, the rows would be copied each time.
     pub fn fill_rows(self, rows: &mut [[u8; 16]])
         requires { length rows.old ≡ 11 }
         ensures { rows.new ≡ rows_of self.bytes }

@@ -39,9 +39,8 @@ pub fn halves(hi: &[u64; 16], lo: &[u64; 16]) -> [u64; 144]
     x
 }
 
-// The mixtures of the numbers in x. It serves the layers above. The array begins as ones: for zeros the compiler would call memset, which the
-// library is not to need. Two words stored side by side at its start make the compiler place it at a multiple of 16 bytes, so that two numbers of a
-// row are read as one.
+// The mixtures of the numbers in x. It serves the layers above. Two words stored side by side at the array's start make the compiler place it at a
+// multiple of 16 bytes, so that two numbers of a row are read as one.
 pub fn table(x: &[u64; 144]) -> [u64; 1296]
     ensures { Tables.MixturesIn (λ i. get_or x.now i 0) result }
 {

@@ -77,7 +77,7 @@ Inside n (opened.Record e next) = InsideEdit n e
 Inside n (opened.Refused c) = Unit {0}
 Inside n opened.End = Unit {0}
 
--- what stands at a place was opened, and the bytes of an edit lie in the journal; in one record, because the reader's proofs by hand carry a
+-- what stands at a place was opened, and the bytes of an edit lie in the journal; in one record, since the reader's functions hand it on as a
 -- single fact
 pub record OpenedAt (j : List ℕ) (at : ℕ) (r : Opened) : Type 0 where
   pub same : opening_of j r ≡ opening j at
