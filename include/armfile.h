@@ -82,24 +82,24 @@
  * Bytes of stack that a call takes, with its return address and the arguments
  * that go by the stack. Of two figures the second is for inputs that are all
  * shorter than 512 bytes; a longer one is hashed by a table of powers of H,
- * which the compiler keeps on the stack four times. A figure is the same at
- * every length above 0, a join's at every number of parts, and at 0 no more;
- * but calls with two take less at some, and an edit and a join where they need
- * no power of H. A start's is the same with fill 0 as with another. This is
- * measured (tests/stack), and is not part of what is proved:
+ * which stands on the stack. A figure is the same at every length above 0, a
+ * join's at every number of parts, and at 0 no more; but calls with two take
+ * less at some, and an edit and a join where they need no power of H. A
+ * start's is the same with fill 0 as with another. This is measured
+ * (tests/stack), and is not part of what is proved:
  *
- *      armfile_encrypt      1096            armfile_drop_front   824
- *      armfile_multiply      168            armfile_cut_tail     824
- *      armfile_ghash       43848   408      armfile_replay      1544
- *      armfile_join          456            armfile_forecast     240
- *      armfile_gmac        44472  1544      armfile_seal        1544
- *      armfile_gcm_encrypt 44200  3640      armfile_check       1352
- *      armfile_gcm_decrypt 44200  3640      armfile_length         8
- *      armfile_start        1432            armfile_arm            8
- *      armfile_read        44104  1320      armfile_last           8
- *      armfile_change        872            armfile_sum            8
- *      armfile_append        824            armfile_hash_key       8
- *      armfile_prepend       824
+ *      armfile_encrypt      1144           armfile_drop_front     760
+ *      armfile_multiply      168           armfile_cut_tail       616
+ *      armfile_ghash       12904   408     armfile_replay        1000
+ *      armfile_join          472           armfile_forecast       232
+ *      armfile_gmac        13528  1608     armfile_seal          1496
+ *      armfile_gcm_encrypt 14168  4664     armfile_check         1432
+ *      armfile_gcm_decrypt 14168  4664     armfile_length           8
+ *      armfile_start        1336           armfile_arm              8
+ *      armfile_read        13048  1272     armfile_last             8
+ *      armfile_change        776           armfile_sum              8
+ *      armfile_append        632           armfile_hash_key         8
+ *      armfile_prepend       616
  *
  * WHAT TO WIPE
  *
@@ -113,7 +113,7 @@
  *
  *  - the stack below itself, by calling, from the function that made the calls,
  *    one that is not inlined and overwrites at least as many bytes as the
- *    largest figure above (examples/c/seal.c overwrites 49152);
+ *    largest figure above (examples/c/seal.c overwrites 16384);
  *  - every state that is no longer used, copies too: it holds the key;
  *  - H and the sums that it took out of states or had from a join: whoever has
  *    H can forge tags, and to whoever knows a file its sum leaves few hash keys

@@ -35,7 +35,7 @@ struct joined {
 /* Overwrites the stack below its caller, where the library's calls leave keys and sums (armfile.h, WHAT TO WIPE). */
 static void overwrite_stack(void)
 {
-	volatile uint8_t room[49152];
+	volatile uint8_t room[16384];
 
 	for (size_t i = 0; i < sizeof room; i++)
 		room[i] = 0;

@@ -35,12 +35,12 @@ decoded b ek eh ei es en ea el =
     λ j. record { key = record { bytes = ek j }; h = eh j; i = ei j; s = es j; n = en j; arm = ea j; last = el j }
 
 -- the fields stored one behind the other are the state's bytes: a after the first store, and so on to g
-pub encoded : (st : State) (out : List ℕ) (k : Block) {a b c d e f g : List ℕ} → length out ≡ state_bytes → bytes_of k ≡ st.key.bytes
-    → a ≡ sets out 0 (bytes_of k) → b ≡ sets a 16 (bytes_of st.h) → c ≡ sets b 32 (bytes_of st.i) → d ≡ sets c 48 (bytes_of st.s)
+pub encoded : (st : State) (out : List ℕ) {a b c d e f g : List ℕ} → length out ≡ state_bytes → length st.key.bytes ≡ 16
+    → a ≡ sets out 0 st.key.bytes → b ≡ sets a 16 (bytes_of st.h) → c ≡ sets b 32 (bytes_of st.i) → d ≡ sets c 48 (bytes_of st.s)
     → e ≡ sets d 64 (bytes 8 st.n) → f ≡ sets e 72 (bytes 4 st.arm) → g ≡ sets f 76 (bytes 8 st.last) → g ≡ packed_state st
 unfolding packed_state
-encoded st out k l ek ea eb ec ed ee ef eg =
-    let key = stored-list st.key.bytes 16 (ap length (sym ek) ∙ length-block_bytes k) (stored-none out 0) (ea ∙ ap (sets out 0) ek) in
+encoded st out l lk ea eb ec ed ee ef eg =
+    let key = stored-list st.key.bytes 16 lk (stored-none out 0) ea in
     let h = stored-list (bytes_of st.h) 16 (length-block_bytes st.h) key eb in
     let i = stored-list (bytes_of st.i) 16 (length-block_bytes st.i) h ec in
     let s = stored-list (bytes_of st.s) 16 (length-block_bytes st.s) i ed in

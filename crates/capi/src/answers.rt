@@ -1,74 +1,30 @@
 // The answers of the layers below, as numbers and lent bytes.
-ghost use Rattle.std.specs.Prelude.{◌≡◌};
-ghost use Rattle.cipher.specs.Aes;
-ghost use Rattle.field.specs.Field;
-ghost use Rattle.gcm.specs.Gcm;
+ghost use Rattle.std.specs.Prelude.{◌≡◌, Result, MatchResult};
+ghost use Rattle.std.specs.Fn.{FnOnceReturnsAtMut};
 ghost use Rattle.file.specs.Clauses.{state_answer};
-ghost use Rattle.journal.specs.Clauses as journal;
+ghost use Rattle.file.specs.declared.causes.Cause.{Cause};
+ghost use Rattle.file.specs.declared.states.State.{State};
+ghost use Rattle.field.specs.declared.multiplying.Count.{Count};
+ghost use Rattle.capi.specs.Bytes.{state_from};
 ghost use Rattle.capi.specs.Calls.{kept, verdict_byte};
 ghost use Rattle.capi.specs.Clauses.{edit_result};
 
-use super::packing::{STATE_BYTES, encode};
-use file::{Answered, Outcome, Verdict};
+use super::packing::{STATE_BYTES, decode, encode};
+use field::multiplying::Count;
+use file::{Cause, State, Verdict};
 
-// The number of a cipher's answer.
-pub fn cipher_number(a: cipher::Answer) -> u64
-    ensures { result ≡ Aes.answer_refusal a }
+// The number of an answer: 0 where the work was done, else its cause's.
+pub fn number<T: Drop, C: Into<u64>>(answer: Result<T, C>) -> u64
+    ensures { MatchResult answer (λ _. result ≡ 0) (λ cause. C.converts cause result) }
 {
-    match a {
-        cipher::Answer::Done => 0,
-        cipher::Answer::Refused(cause) => match cause {
-            cipher::Cause::InputLength => 1,
-            cipher::Cause::OutputLength => 7,
-        },
+    match answer {
+        Ok(_) => 0,
+        Err(cause) => cause.into(),
     }
 }
 
-// The number of a field's answer.
-pub fn field_number(a: field::Answer) -> u64
-    ensures { result ≡ Field.answer_refusal a }
-{
-    match a {
-        field::Answer::Done => 0,
-        field::Answer::Refused(cause) => match cause {
-            field::Cause::InputLength => 1,
-            field::Cause::TooLong => 2,
-            field::Cause::PartLength => 5,
-            field::Cause::OutputLength => 7,
-            field::Cause::SumsLength => 15,
-        },
-    }
-}
-
-// The number of an answer of GMAC or GCM.
-pub fn gcm_number(a: gcm::Answer) -> u64
-    ensures { result ≡ Gcm.answer_refusal a }
-{
-    match a {
-        gcm::Answer::Done => 0,
-        gcm::Answer::Refused(cause) => match cause {
-            gcm::Cause::KeyLength => 1,
-            gcm::Cause::EmptyNonce => 9,
-            gcm::Cause::TagLength => 7,
-            gcm::Cause::TextLength => 7,
-            gcm::Cause::TooLong => 2,
-            gcm::Cause::TextTooLong => 13,
-            gcm::Cause::WrongTag => 14,
-        },
-    }
-}
-
-// The number of replay's answer.
-pub fn journal_number(a: journal::Answer) -> u64
-    ensures { result ≡ journal.answer_refusal a }
-{
-    match a {
-        journal::Answer::Done => 0,
-        journal::Answer::Refused(cause) => cause.number(),
-    }
-}
-
-// The byte of a check's verdict.
+// The byte of a check's verdict. It is the boundary's own, so it is no `From` of `Verdict`, which would stand in the file keeper's crate.
+#[tactic(auto, unfolding(crate::specs::Calls::verdict_byte))]
 pub fn verdict_byte(v: Verdict) -> u8
     ensures { result ≡ verdict_byte v }
 {
@@ -80,19 +36,33 @@ pub fn verdict_byte(v: Verdict) -> u8
     }
 }
 
+// A call on the state that the lent bytes hold: what it makes of the state, and its answer, are kept.
+pub fn edit<F: FnOnce(&mut State) -> Result<Count, Cause>>(
+    state: &mut [u8; STATE_BYTES],
+    count: &mut u64,
+    call: F,
+) -> u64
+    requires { F.IsAlwaysCallable call }
+    ensures { (st : State) × (r : Result Count Cause) × FnOnceReturnsAtMut F.FnOnce call (state_from state.old) r st
+        × (edit_result result state.new count.new ≡ kept (state_answer st r) state.old count.old) }
+{
+    let mut st = decode(state);
+    keep(call(&mut st), st, state, count)
+}
+
 // What a call on a state answered, put where the caller wants it: where it was accepted, the state and its count are written; where it was
 // refused, both stay as they were.
-pub fn keep(e: Answered, state: &mut [u8; STATE_BYTES], count: &mut u64) -> u64
-    ensures { edit_result result state.new count.new ≡ kept (state_answer e) state.old count.old }
+pub fn keep(
+    answer: Result<Count, Cause>,
+    st: State,
+    state: &mut [u8; STATE_BYTES],
+    count: &mut u64,
+) -> u64
+    ensures { edit_result result state.new count.new ≡ kept (state_answer st answer) state.old count.old }
 {
-    let outcome = e.outcome;
-    match outcome {
-        Outcome::Refused(cause) => cause.number(),
-        Outcome::Done(products) => {
-            let st = e.state;
-            encode(st, state);
-            *count = products.number();
-            0
-        }
+    if let Ok(products) = answer {
+        encode(st, state);
+        *count = products.number();
     }
+    number(answer)
 }

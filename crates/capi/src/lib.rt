@@ -1,6 +1,6 @@
 // The C boundary: every call of the layers below over lent bytes. The state is 84 lent bytes (specs/Bytes). Every call answers a refusal's
 // number (document 01, "Causes and their numbers") or 0. include/armfile.h is the manual for C callers.
-#![tactic(auto)]
+#![tactic(auto, using(crate::proofs::CallLaws::block_over), unfolding(crate::specs::Calls::edit_call, crate::specs::Calls::start_call, crate::specs::Calls::read_call, crate::specs::Calls::replay_call, crate::specs::Calls::written))]
 
 mod answers;
 mod packing;
@@ -15,8 +15,8 @@ ghost use Rattle.capi.specs.Bytes.{state_from};
 ghost use Rattle.capi.specs.Calls.{edit_call, start_call, read_call, seal_call, check_call, replay_call, join_call};
 ghost use Rattle.capi.specs.Clauses.{edit_result, read_result, seal_result, check_result, replay_result, join_result};
 
-use answers::{cipher_number, field_number, gcm_number, journal_number, keep, verdict_byte};
-use file::{Answer, Checked, State};
+use answers::{edit, keep, number, verdict_byte};
+use file::State;
 use journal::{forecast, replay};
 use packing::{
     BLOCK_BYTES, STATE_BYTES, arm_of, decode, encode, hash_key_of, last_of, length_of, sum_of,
@@ -28,7 +28,7 @@ pub extern "C" fn armfile_encrypt(key: &[u8], block: &[u8], out: &mut [u8]) -> u
     ensures answer { result ≡ encrypt_refusal key.now block.now out.old }
     ensures output { out.new ≡ encrypt_output key.now block.now out.old }
 {
-    cipher_number(cipher::encrypt(key, block, out))
+    number(cipher::encrypt(key, block, out))
 }
 
 // The product of two blocks. Refused, in this order, with 1 where a or b is not 16 bytes and with 7 where out is not.
@@ -37,7 +37,7 @@ pub extern "C" fn armfile_multiply(a: &[u8], b: &[u8], out: &mut [u8]) -> u64
     ensures answer { result ≡ multiply_refusal a.now b.now out.old }
     ensures output { out.new ≡ multiply_output a.now b.now out.old }
 {
-    field_number(field::multiply(a, b, out))
+    number(field::multiply(a, b, out))
 }
 
 // GHASH of a and c under the hash key h. Refused, in this order, with 1 where h is not 16 bytes, with 7 where out is not, and with 2 where
@@ -47,7 +47,7 @@ pub extern "C" fn armfile_ghash(h: &[u8], a: &[u8], c: &[u8], out: &mut [u8]) ->
     ensures answer { result ≡ ghash_refusal h.now a.now c.now out.old }
     ensures output { out.new ≡ ghash_output h.now a.now c.now out.old }
 {
-    field_number(field::ghash(h, a, c, out))
+    number(field::ghash(h, a, c, out))
 }
 
 // Joins parts under the hash key h, as `field::join` does: sums holds 16 bytes a part and lengths a length each. Refused, in this order, with 1 where h is
@@ -65,15 +65,11 @@ pub extern "C" fn armfile_join(
         ≡ join_call h.now sums.now lengths.now sum.old n.old }
 {
     let joined = field::join(h, sums, lengths);
-    let answer = joined.answer;
-    let number = field_number(answer);
-    if number != 0 {
-        return number;
+    if joined.answer.is_ok() {
+        joined.sum.write(sum, 0);
+        *n = joined.length;
     }
-    let whole = joined.sum;
-    whole.write(sum, 0);
-    *n = joined.length;
-    0
+    number(joined.answer)
 }
 
 // GMAC of a under a key and a nonce. Refused, in this order, with 1 where the key is not 16 bytes, with 9 where the nonce is empty, with 7 where
@@ -83,7 +79,7 @@ pub extern "C" fn armfile_gmac(key: &[u8], nonce: &[u8], a: &[u8], out: &mut [u8
     ensures answer { result ≡ gmac_refusal key.now nonce.now a.now out.old }
     ensures output { out.new ≡ gmac_output key.now nonce.now a.now out.old }
 {
-    gcm_number(gcm::gmac(key, nonce, a, out))
+    number(gcm::gmac(key, nonce, a, out))
 }
 
 // GCM encryption of a text under a key, a nonce and associated data. Refused, in this order, with 1 where the key is not 16 bytes, with 9 where
@@ -101,7 +97,7 @@ pub extern "C" fn armfile_gcm_encrypt(
     ensures { encrypt_result result out.new tag.new
         ≡ encrypted key.now nonce.now aad.now text.now out.old tag.old }
 {
-    gcm_number(gcm::encrypt(key, nonce, aad, text, out, tag))
+    number(gcm::encrypt(key, nonce, aad, text, out, tag))
 }
 
 // GCM decryption. Refused, in this order, as encryption is, and last with 14 where the tag is not that of text and associated data; out then
@@ -118,7 +114,7 @@ pub extern "C" fn armfile_gcm_decrypt(
     ensures { decrypt_result result out.new
         ≡ decrypted key.now nonce.now aad.now text.now out.old tag.now }
 {
-    gcm_number(gcm::decrypt(key, nonce, aad, text, out, tag))
+    number(gcm::decrypt(key, nonce, aad, text, out, tag))
 }
 
 // The state of n fill bytes. Refused, in this order, with 1 where the key is not 16 bytes and with 2 where n passes 2^61 - 1; state and count
@@ -136,7 +132,8 @@ pub extern "C" fn armfile_start(
     ensures { edit_result result state.new count.new
         ≡ start_call (record { key = key.entry.now; arm = arm; last = last; n = n; fill = fill }) state.old count.old }
 {
-    keep(State::start(key, arm, last, n, fill), state, count)
+    let started = State::start(key, arm, last, n, fill);
+    keep(started.outcome, started.state, state, count)
 }
 
 // The state of a lent file. Refused, in this order, with 1 where the key is not 16 bytes and with 2 where the file passes 2^61 - 1 bytes; the
@@ -153,7 +150,8 @@ pub extern "C" fn armfile_read(
         state.old }
 {
     let mut none = 0u64;
-    keep(State::read(key, arm, last, file), state, &mut none)
+    let held = State::read(key, arm, last, file);
+    keep(held.outcome, held.state, state, &mut none)
 }
 
 // Bytes p to p + l - 1 become new; old and new are of l bytes each. Refused as `State::change` is; state and count then stay as they were.
@@ -168,8 +166,7 @@ pub extern "C" fn armfile_change(
     ensures { edit_result result state.new count.new
         ≡ edit_call state.old (Edits.change p old.now new.now) count.old }
 {
-    let st = decode(state);
-    keep(st.change(p, old, new), state, count)
+    edit(state, count, |st| st.change(p, old, new))
 }
 
 // The given bytes go after the last. Refused as `State::append` is; state and count then stay as they were.
@@ -182,8 +179,7 @@ pub extern "C" fn armfile_append(
     ensures { edit_result result state.new count.new
         ≡ edit_call state.old (Edits.append bytes.now) count.old }
 {
-    let st = decode(state);
-    keep(st.append(bytes), state, count)
+    edit(state, count, |st| st.append(bytes))
 }
 
 // The given bytes go before the first. Refused as `State::prepend` is; state and count then stay as they were.
@@ -196,8 +192,7 @@ pub extern "C" fn armfile_prepend(
     ensures { edit_result result state.new count.new
         ≡ edit_call state.old (Edits.prepend bytes.now) count.old }
 {
-    let st = decode(state);
-    keep(st.prepend(bytes), state, count)
+    edit(state, count, |st| st.prepend(bytes))
 }
 
 // The given bytes leave the front. Refused as `State::drop_front` is; state and count then stay as they were.
@@ -210,8 +205,7 @@ pub extern "C" fn armfile_drop_front(
     ensures { edit_result result state.new count.new
         ≡ edit_call state.old (Edits.drop_front bytes.now) count.old }
 {
-    let st = decode(state);
-    keep(st.drop_front(bytes), state, count)
+    edit(state, count, |st| st.drop_front(bytes))
 }
 
 // The given bytes leave the end. Refused as `State::cut_tail` is; state and count then stay as they were.
@@ -224,8 +218,7 @@ pub extern "C" fn armfile_cut_tail(
     ensures { edit_result result state.new count.new
         ≡ edit_call state.old (Edits.cut_tail bytes.now) count.old }
 {
-    let st = decode(state);
-    keep(st.cut_tail(bytes), state, count)
+    edit(state, count, |st| st.cut_tail(bytes))
 }
 
 // Seals the file: the last used number rises by one, and the slip gets the new one and the file's tag under it. Refused as `State::seal`
@@ -234,15 +227,12 @@ pub extern "C" fn armfile_cut_tail(
 pub extern "C" fn armfile_seal(state: &mut [u8; STATE_BYTES], slip: &mut [u8]) -> u64
     ensures { seal_result result state.new slip.new ≡ seal_call state.old slip.old }
 {
-    let st = decode(state);
-    let sealed = st.seal(slip);
-    let answer = sealed.answer;
-    if let Answer::Refused(cause) = answer {
-        return cause.number();
+    let mut st = decode(state);
+    let answer = st.seal(slip);
+    if answer.is_ok() {
+        encode(st, state);
     }
-    let after = sealed.state;
-    encode(after, state);
-    0
+    number(answer)
 }
 
 // The file's length in bytes, as the state holds it.
@@ -269,7 +259,7 @@ pub extern "C" fn armfile_last(state: &[u8; STATE_BYTES]) -> u64
     last_of(state)
 }
 
-// The running sum of the file, as the state holds it.
+// The running sum of the file, as the state holds it. It is written where it goes, and no copy of it stays on the stack.
 #[unsafe(no_mangle)]
 pub extern "C" fn armfile_sum(state: &[u8; STATE_BYTES], out: &mut [u8; BLOCK_BYTES])
     ensures { out.new ≡ bytes_of (state_from state.now).s }
@@ -277,7 +267,7 @@ pub extern "C" fn armfile_sum(state: &[u8; STATE_BYTES], out: &mut [u8; BLOCK_BY
     sum_of(state).write(out, 0);
 }
 
-// The hash key H, as the state holds it. It is a secret, as the key is.
+// The hash key H, as the state holds it. It is a secret, as the key is, and written where it goes, as the sum is.
 #[unsafe(no_mangle)]
 pub extern "C" fn armfile_hash_key(state: &[u8; STATE_BYTES], out: &mut [u8; BLOCK_BYTES])
     ensures { out.new ≡ bytes_of (state_from state.now).h }
@@ -291,15 +281,11 @@ pub extern "C" fn armfile_hash_key(state: &[u8; STATE_BYTES], out: &mut [u8; BLO
 pub extern "C" fn armfile_check(state: &[u8; STATE_BYTES], slip: &[u8], verdict: &mut u8) -> u64
     ensures { check_result result verdict.new ≡ check_call state.now slip.now verdict.old }
 {
-    let st = decode(state);
-    let answer = st.check(slip);
-    match answer {
-        Checked::Refused(cause) => cause.number(),
-        Checked::Found(v) => {
-            *verdict = verdict_byte(v);
-            0
-        }
+    let answer = decode(state).check(slip);
+    if let Ok(found) = answer {
+        *verdict = verdict_byte(found);
     }
+    number(answer)
 }
 
 // Applies a journal's records to the state, in order, until one is refused, as `journal::replay` does. Refused, in this order, with 2 and with 10 as
@@ -314,14 +300,12 @@ pub extern "C" fn armfile_replay(
 ) -> u64
     ensures { replay_result result state.new count.new offset.new ≡ replay_call state.old journal.now }
 {
-    let st = decode(state);
-    let replayed = replay(st, journal);
-    let after = replayed.state;
-    encode(after, state);
+    let mut st = decode(state);
+    let replayed = replay(&mut st, journal);
+    encode(st, state);
     *count = replayed.count;
     *offset = replayed.offset;
-    let answer = replayed.answer;
-    journal_number(answer)
+    number(replayed.answer)
 }
 
 // Forecasts what armfile_replay will do of a journal to a state of n bytes, as `journal::forecast` does, from the heads of the records alone: its
@@ -341,6 +325,5 @@ pub extern "C" fn armfile_forecast(
     *bound = told.bound;
     *greatest = told.greatest;
     *offset = told.offset;
-    let answer = told.answer;
-    journal_number(answer)
+    number(told.answer)
 }

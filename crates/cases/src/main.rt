@@ -1,8 +1,9 @@
 // The bench cases of document 01 that are no theorems: each line names a case and prints the refusal's number, 0 where it was accepted.
+// What can't be written is lost, and the next line is tried all the same.
 #![tactic(auto)]
 
 use field::hashing::MAX_BYTES;
-use file::{Answer, Answered, Outcome, SLIP_BYTES, State};
+use file::{Cause, SLIP_BYTES, State};
 
 fn main(rt: HostRuntime) {
     edits(&rt);
@@ -12,73 +13,43 @@ fn main(rt: HostRuntime) {
 
 // Edits of a file of 40 bytes.
 fn edits(rt: &impl Print) {
-    let st = State::start(b"a key for arm 7.", 7, 0, 40, 0xff).state;
-    print_edit(
+    let mut st = State::start(b"a key for arm 7.", 7, 0, 40, 0xff).state;
+    print(rt, "change of 0 bytes at 40 of 40", st.change(40, b"", b""));
+    print(rt, "change of 0 bytes at 41 of 40", st.change(41, b"", b""));
+    print(rt, "prepend 15", st.prepend(b"fifteen bytes.."));
+    print(
         rt,
-        b"change of 0 bytes at 40 of 40",
-        st.change(40, b"", b""),
-    );
-    print_edit(
-        rt,
-        b"change of 0 bytes at 41 of 40",
-        st.change(41, b"", b""),
-    );
-    print_edit(rt, b"prepend 15", st.prepend(b"fifteen bytes.."));
-    print_edit(
-        rt,
-        b"change with an unequal pair past the end",
+        "change with an unequal pair past the end",
         st.change(41, b"ab", b"abc"),
     );
 }
 
 // Starts about the largest length, with two fill bytes.
 fn starts(rt: &impl Print) {
-    print_start(rt, b"start with 2^61 zero bytes", 0x2000_0000_0000_0000, 0);
-    print_start(rt, b"start with 2^61 - 1 zero bytes", MAX_BYTES, 0);
-    print_start(
+    let start = |n, fill| State::start(b"a key for arm 7.", 7, 0, n, fill).outcome;
+    print(rt, "start with 2^61 zero bytes", start(MAX_BYTES + 1, 0));
+    print(rt, "start with 2^61 - 1 zero bytes", start(MAX_BYTES, 0));
+    print(
         rt,
-        b"start with 2^61 bytes of FF",
-        0x2000_0000_0000_0000,
-        0xff,
+        "start with 2^61 bytes of FF",
+        start(MAX_BYTES + 1, 0xff),
     );
-    print_start(rt, b"start with 2^61 - 1 bytes of FF", MAX_BYTES, 0xff);
-}
-
-fn print_start(rt: &impl Print, name: &[u8], n: u64, fill: u8) {
-    print_edit(rt, name, State::start(b"a key for arm 7.", 7, 0, n, fill));
+    print(
+        rt,
+        "start with 2^61 - 1 bytes of FF",
+        start(MAX_BYTES, 0xff),
+    );
 }
 
 // The last two seal numbers.
 fn seals(rt: &impl Print) {
-    let near = State::start(b"a key for arm 7.", 7, 0xffff_ffff_ffff_fffe, 40, 0xff).state;
+    let mut st = State::start(b"a key for arm 7.", 7, u64::MAX - 1, 40, 0xff).state;
     let mut slip = [0u8; SLIP_BYTES];
-    let once = near.seal(&mut slip);
-    let st = once.state;
-    let first = once.answer;
-    print_answer(rt, b"seal after 2^64 - 2", first);
-    let twice = st.seal(&mut slip);
-    let second = twice.answer;
-    print_answer(rt, b"seal after 2^64 - 1", second);
+    print(rt, "seal after 2^64 - 2", st.seal(&mut slip));
+    print(rt, "seal after 2^64 - 1", st.seal(&mut slip));
 }
 
-fn print_edit(rt: &impl Print, name: &[u8], answered: Answered) {
-    let outcome = answered.outcome;
-    match outcome {
-        Outcome::Done(_) => print_number(rt, name, 0),
-        Outcome::Refused(cause) => print_number(rt, name, cause.number()),
-    }
-}
-
-fn print_answer(rt: &impl Print, name: &[u8], answer: Answer) {
-    match answer {
-        Answer::Done => print_number(rt, name, 0),
-        Answer::Refused(cause) => print_number(rt, name, cause.number()),
-    }
-}
-
-// What can't be written is lost, and the next text is tried all the same.
-fn print_number(rt: &impl Print, name: &[u8], number: u64) {
-    let _ = rt.write_all(name);
-    let _ = rt.write_all(b": ");
-    let _ = rt.println(number);
+fn print<T: Drop>(rt: &impl Print, name: &str, answer: Result<T, Cause>) {
+    let number = answer.map_or_else(u64::from, |_| 0);
+    let _ = println!(rt; "{name}: {number}");
 }

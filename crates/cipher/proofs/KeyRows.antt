@@ -4,7 +4,7 @@ use mathlib.Core.Logic.{◌⊎◌, inl, inr, ⊎_elim, ◌≢◌}
 use mathlib.Core.Bool.{Bool, true, false, cond}
 use mathlib.Core.List.{List, [], ◌∷◌, ◌++◌}
 use Prim.Native.Nat.{ℕ, ◌+◌, ◌-◌, ◌*◌, ◌/◌, ◌%◌, ◌≤◌, ◌<◌}
-use native.Mathlib.Nat.{eq-or-lt_of_le, mul-div-mul_left, zero-lt-suc, div-lt_iff_lt-mul}
+use native.Mathlib.Nat.{eq-or-lt_of_le, mul-div-mul_left, zero-lt-suc}
 use native.Mathlib.Decide.{dec_lt}
 use native.Mathlib.Omega.{arith}
 use borrow.Author.Tests.{lt-ltb, le-ltb, eq-eqb, ne_eqb}
@@ -246,10 +246,6 @@ module _ (key : List ℕ) (r : ℕ) (x : Expands key (r + 1)) where
   -- one of the key's own rows
   pub row_of-own : r < length key / 16 → tab 16 (λ i. at key (16 * r + i)) ≡ row_of key r
   row_of-own h = sym (row_of-row r ∙ row-own (length key / 16) key low high r h)
-
-  -- Rcon is read within its table
-  pub constant-within : r / (length key / 16) < 11
-  constant-within = (div-lt_iff_lt-mul low).1 (omega arith)
 
   -- a later row
   pub row_of_next : (s back prev t : List ℕ) → length key / 16 ≤ r → back ≡ row_of key (r - length key / 16) → prev ≡ row_of key (r - 1)

@@ -8,11 +8,10 @@ use lib.ListN.{length, get_or, take, drop, length-append, length-drop, drop_of_l
 use lib.Seq.{length-take-le, take_all, take_at, drop_at, drop-drop, take-add, get_or-take, get_or-drop, ext_get_or}
 use Rattle.cipher.specs.Rounds.{AddRoundKey}
 use Rattle.cipher.specs.Cipher.{Cipher, rows_of, aes, each_block}
-use Rattle.cipher.specs.Clauses.{Portion}
 use Rattle.planes.proofs.Tables.{length-tab, get_d_tab}
 use Rattle.cipher.proofs.Whole.{aes-rows}
 
-length_cipher : (n : ℕ) (s : List ℕ) (rows : List (List ℕ)) → length (Cipher n s rows) ≡ 16
+pub length_cipher : (n : ℕ) (s : List ℕ) (rows : List (List ℕ)) → length (Cipher n s rows) ≡ 16
 unfolding Cipher AddRoundKey
 length_cipher n s rows = length-tab 16 _
 
@@ -27,7 +26,7 @@ unfolding each_block
 get_d_each rows s k place i h block byte = get_d_tab (length s) _ k 0 h ∙ rw (block, byte)
 
 -- one block alone
-pub each-one : (rows : List (List ℕ)) (s : List ℕ) → length s ≡ 16 → Cipher (length rows - 1) s rows ≡ each_block rows s
+each-one : (rows : List (List ℕ)) (s : List ℕ) → length s ≡ 16 → Cipher (length rows - 1) s rows ≡ each_block rows s
 each-one rows s e =
     sym
     (ext_get_or 0 _ _ (length_each rows s ∙ e ∙ sym (length_cipher _ _ rows))
@@ -54,7 +53,7 @@ module _ (rows : List (List ℕ)) (s : List ℕ) (place k : ℕ) (whole : place 
       ∙ get_or-drop place s (m + i) 0
       ∙ sym (get_or-take 16 (drop (place + m) s) i 0 few ∙ get_or-drop (place + m) s i 0 ∙ ap (λ (x : ℕ). get_or s x 0) (omega arith)))
 
-  pub each_part : each_block rows (take k (drop place s)) ≡ take k (drop place (each_block rows s))
+  each_part : each_block rows (take k (drop place s)) ≡ take k (drop place (each_block rows s))
   each_part =
       let size : length (take k (drop place s)) ≡ k = part_length s refl in
       ext_get_or 0 _ _ (length_each rows _ ∙ size ∙ sym (part_length (each_block rows s) (length_each rows s)))
@@ -84,7 +83,7 @@ module _ {target s : List ℕ} {place : ℕ} {t : List ℕ} (r : Replaced target
   pub replaced-length : length t ≡ length s
   replaced-length = ap length r.is ∙ rw (length-append, length-drop, front) (omega (arith, r.within))
 
-  pub replaced-rest : drop place t ≡ drop place s
+  replaced-rest : drop place t ≡ drop place s
   replaced-rest = ap (drop place) r.is ∙ drop_at (take place target) (drop place s) place front
 
   -- k bytes more, up to the place next
@@ -106,27 +105,23 @@ module _ {target s : List ℕ} {place : ℕ} {t : List ℕ} (r : Replaced target
   pub replaced_done : length s ≤ place → t ≡ target
   replaced_done h = r.is ∙ ap₂ ◌++◌ (take_all place target (omega (arith, r.size))) (drop_of_length-le s h) ∙ append-nil _
 
--- ---- one portion more, of the blocks of s
-
--- a part that is a portion is sixteen blocks or one
-pub portion_size : {left r : ℕ} → Portion left r → (n place : ℕ) → n ≡ place + r - place → (256 ≤ n → n ≡ 256) × (n < 256 → n ≡ 16)
-portion_size {r = r} p n place e =
-    let size : n ≡ r = omega arith in
-    (λ h. size ∙ p.sixteen (omega arith), λ h. size ∙ p.one (omega arith))
+-- ---- whole blocks more, k bytes of them, which the code counts as n
 
 module _
-    (rows : List (List ℕ)) {s : List ℕ} {place : ℕ} {t : List ℕ} (done : Replaced (each_block rows s) s place t) (whole : place % 16 ≡ 0)
-    (blocks : length s % 16 ≡ 0) (more : place < length t) {r : ℕ} (p : Portion (length t - place) r) where
-  pub portion_room : place + r ≤ length t
-  portion_room = omega (arith, p.fits (omega (arith, replaced-length done)) (omega arith))
+    (rows : List (List ℕ)) {s : List ℕ} {place : ℕ} {t : List ℕ} (done : Replaced (each_block rows s) s place t) (k n : ℕ) (count : n ≡ k)
+    (whole : place % 16 ≡ 0) (blocks : k % 16 ≡ 0) (room : place + k ≤ length s) where
+  pub part_next : (next : ℕ) {c : List ℕ} → next ≡ place + k → c ≡ each_block rows (take n (drop place t))
+      → Replaced (each_block rows s) s next (take place t ++ (c ++ drop n (drop place t)))
+  part_next next step e =
+      let part : place + n ≤ length s = omega arith in
+      replaced_next done n next (omega arith) (omega arith)
+      (e ∙ ap (λ (x : List ℕ). each_block rows (take n x)) (replaced-rest done) ∙ each_part rows s place n whole (omega arith) part)
 
-  pub portion_next : (k : ℕ) {c : List ℕ} → k ≡ place + r - place → c ≡ each_block rows (take k (drop place t))
-      → Replaced (each_block rows s) s (place + r) (take place t ++ (c ++ drop k (drop place t)))
-  portion_next k step e =
-      let size : k ≡ r = omega arith in
-      let part : place + k ≤ length s = omega (arith, portion_room, replaced-length done) in
-      replaced_next done k (place + r) (omega arith) (omega arith)
-      (e ∙ ap (λ (x : List ℕ). each_block rows (take k x)) (replaced-rest done) ∙ each_part rows s place k whole (omega (arith, p.whole)) part)
+  -- one block, which is the cipher of what stood there
+  pub block_next : (next : ℕ) {c : List ℕ} → k ≡ 16 → next ≡ place + k → c ≡ Cipher (length rows - 1) (take n (drop place t)) rows
+      → Replaced (each_block rows s) s next (take place t ++ (c ++ drop n (drop place t)))
+  block_next next one step e =
+      part_next next step (e ∙ each-one rows (take n (drop place t)) (length-take-le n (drop place t) (rw length-drop (omega (arith, replaced-length done))) ∙ omega arith))
 
 -- ---- for the layers above, whose rows are those of a key
 

@@ -1,4 +1,4 @@
--- Sixteen states in four sets of planes, one for each row (specs/Clauses, stateIn): what a step does in every lane of each row is what FIPS 197's
+-- Sixteen states in four sets of planes, one for each row (specs/Clauses, state_in): what a step does in every lane of each row is what FIPS 197's
 -- does to each state.
 use mathlib.Core.Path.{◌≡◌, refl, sym, ap, ap₂, ◌∙◌}
 use mathlib.Core.List.{List, [], ◌∷◌, ◌++◌}
@@ -14,7 +14,7 @@ use Rattle.cipher.specs.Rounds.{SubBytes, ShiftRows, mixed, mixed_entry, MixColu
 use Rattle.cipher.specs.Cipher.{Cipher, each_block}
 use Rattle.cipher.specs.Clauses.{row_in, state_in}
 use Rattle.cipher.proofs.Whole.{tab_at}
-use Rattle.cipher.proofs.ManyBlocks.{Replaced, replaced_start, replaced-length, replaced_next, replaced_done}
+use Rattle.cipher.proofs.ManyBlocks.{Replaced, replaced_start, replaced_next, replaced_done}
 
 -- a byte of a state, by its place
 at_state : (q : List Planes) (b y r l : ℕ) → y < 16 → y % 4 ≡ r → 16 * (y / 4) + b ≡ l → at (state_in q b) y ≡ lane (row_in q r) l
@@ -32,6 +32,14 @@ sixteen_at s place h =
     (λ i l.
     let few : i < 16 = omega (arith, length-tab 16 (λ i. at s (place + i))) in
     get_d_tab 16 _ i 0 few ∙ sym (get_or-take 16 (drop place s) i 0 few ∙ get_or-drop place s i 0))
+
+-- each of the four rows
+pub four : (P : ℕ → Type 0) → P 0 → P 1 → P 2 → P 3 → (r : ℕ) → r < 4 → P r
+four P a b c d zero h = a
+four P a b c d (suc zero) h = b
+four P a b c d (suc (suc zero)) h = c
+four P a b c d (suc (suc (suc zero))) h = d
+four P a b c d (suc (suc (suc (suc r)))) h = absurd (omega arith)
 
 -- what each row holds of the states x, in every lane
 abbrev pub Rows : List Planes → (ℕ → ℕ → ℕ) → Type 0
@@ -98,13 +106,6 @@ row-byte : (q : List Planes) (r : ℕ) (w : List ℕ) → Words q r w → (i l :
     → byte_of (at w (i % 8)) (2 * l + i / 8) ≡ lane (row_in q r) (16 * l + i)
 row-byte q r w held i l h k = held (i % 8) (2 * l + i / 8) (omega arith) (omega arith) ∙ ap (lane (row_in q r)) (omega arith)
 
-four : (P : ℕ → Type 0) → P 0 → P 1 → P 2 → P 3 → (r : ℕ) → r < 4 → P r
-four P a b c d zero h = a
-four P a b c d (suc zero) h = b
-four P a b c d (suc (suc zero)) h = c
-four P a b c d (suc (suc (suc zero))) h = d
-four P a b c d (suc (suc (suc (suc r)))) h = absurd (omega arith)
-
 module _ (q : List Planes) (a b c d : List ℕ) (ea : Words q 0 a) (eb : Words q 1 b) (ec : Words q 2 c) (ed : Words q 3 d) where
   -- it is the block's state
   state-words : (i : ℕ) → i < 16 → block_in a b c d i ≡ state_in q i
@@ -141,9 +142,6 @@ module _ (a b c d : List ℕ) where
 
   pub blocks_start : (s : List ℕ) → length s ≡ 256 → Replaced (blocks_in a b c d) s 0 s
   blocks_start s e = replaced_start (blocks_in a b c d) s (size ∙ sym e)
-
-  pub blocks-length : {s : List ℕ} {i : ℕ} {t : List ℕ} → Replaced (blocks_in a b c d) s i t → length t ≡ 256
-  blocks-length r = replaced-length r ∙ sym r.size ∙ size
 
   pub blocks_next : (i k : ℕ) {s t w : List ℕ} → Replaced (blocks_in a b c d) s (16 * i) t → i < 16 → k ≡ 16 * i + 16 - 16 * i → w ≡ block_in a b c d i
       → Replaced (blocks_in a b c d) s (16 * (i + 1)) (take (16 * i) t ++ (w ++ drop k (drop (16 * i) t)))

@@ -1,22 +1,20 @@
 -- The whole cipher: one round more, the schedule of a key of any length that the code expands, and what the block call leaves in the output.
-use mathlib.Core.Path.{◌≡◌, refl, sym, ap, ◌∙◌}
+use mathlib.Core.Path.{◌≡◌, refl, sym, ◌∙◌}
 use mathlib.Core.Bool.{true}
 use mathlib.Core.Logic.{◌≢◌}
 use mathlib.Core.List.{List, []}
-use Prim.Native.Nat.{ℕ, ◌+◌, ◌-◌, ◌*◌, ◌≤◌}
+use Prim.Native.Nat.{ℕ, ◌+◌, ◌-◌, ◌*◌, ◌≤◌, ◌<◌}
 use native.Mathlib.Nat.{add-sub_cancel}
 use native.Mathlib.Numerals.{add-one}
 use native.Mathlib.Omega.{arith}
 use borrow.Author.Tests.{ne_eqb, not-false}
-use lib.ListN.{length, get_or}
-use lib.Seq.{ext_get_or}
+use lib.ListN.{length, get_or, take, drop, length-drop}
+use lib.Seq.{length-take-le, get_or-take, get_or-drop, ext_get_or}
 use Rattle.planes.specs.Tables.{tab, at}
-use Rattle.cipher.specs.Rounds.{SubBytes, ShiftRows, AddRoundKey}
+use Rattle.cipher.specs.Rounds.{SubBytes, ShiftRows, MixColumns, AddRoundKey}
 use Rattle.cipher.specs.Schedule.{KeyExpansion, schedule}
-use Rattle.cipher.specs.Clauses.{cause_number, answer_refusal, row_of, Expands}
+use Rattle.cipher.specs.Clauses.{cause_number, row_of, Expands}
 use Rattle.cipher.specs.Cipher.{Round, after, Cipher, Nk, Nr, rows_of, aes}
-use Rattle.cipher.specs.declared.Answer.{Answer}
-use Rattle.cipher.specs.declared.Answer.TheVariants.{Done, Refused}
 use Rattle.cipher.specs.declared.Cause.{Cause}
 use Rattle.cipher.specs.declared.Cause.TheVariants.{InputLength, OutputLength}
 use Rattle.cipher.specs.Answers.{key_fits, encrypt_refusal, encrypt_output}
@@ -24,20 +22,27 @@ use Rattle.refusals.proofs.Laws.{first_passed, agreed}
 use Rattle.planes.proofs.Tables.{length-tab, get_d_tab, tab-ext}
 use Rattle.cipher.proofs.KeyRows.{row-stable}
 
+-- the rows between the first and the last
+abbrev middle : List (List ℕ) → List (List ℕ)
+middle rows = take (length rows - 1 - 1) (drop 1 rows)
+
+pub length-middle : (rows : List (List ℕ)) → length (middle rows) ≡ length rows - 1 - 1
+length-middle rows = length-take-le (length rows - 1 - 1) (drop 1 rows) (rw length-drop (omega arith))
+
 -- one round more
-pub after_more :
-    (rows : List (List ℕ)) (s₀ s t : List ℕ) (r : ℕ) → s ≡ after rows s₀ r → t ≡ Round s (get_or rows (r + 1) []) → t ≡ after rows s₀ (r + 1)
-after_more rows s₀ s t r es et = et ∙ rw (es, add-one) (unfold after in refl)
+pub after_more : (rows : List (List ℕ)) (s : List ℕ) (r : ℕ) → r < length (middle rows)
+    → after rows s (r + 1) ≡ AddRoundKey (MixColumns (ShiftRows (SubBytes (after rows s r)))) (get_or (middle rows) r [])
+unfolding Round
+after_more rows s r h =
+    let behind : 1 + r ≡ r + 1 = omega arith in
+    rw (get_or-take (length rows - 1 - 1) (drop 1 rows) r [] (omega (arith, length-middle rows)), get_or-drop 1 rows r [], behind, add-one)
+    (unfold after in refl)
 
 -- the last round, after all those before it
 pub cipher_done : (rows : List (List ℕ)) (input : List ℕ) (r last : ℕ) → r ≡ last - 1
-    → AddRoundKey (ShiftRows (SubBytes (after rows (AddRoundKey input (get_or rows 0 [])) r))) (get_or rows last []) ≡ Cipher last input rows
+    → Cipher last input rows ≡ AddRoundKey (ShiftRows (SubBytes (after rows (AddRoundKey input (get_or rows 0 [])) r))) (get_or rows last [])
 unfolding Cipher
 cipher_done rows input r last e = rw e
-
-pub length-sum : (s k : List ℕ) → length (AddRoundKey s k) ≡ 16
-unfolding AddRoundKey
-length-sum s k = length-tab 16 _
 
 -- a table of a list's bytes is the list
 pub tab_at : (n : ℕ) (s : List ℕ) → length s ≡ n → tab n (at s) ≡ s
@@ -68,29 +73,22 @@ cause_refuses : (cause : Cause) → cause_number cause ≢ 0
 cause_refuses InputLength e = omega arith
 cause_refuses OutputLength e = omega arith
 
--- where nothing is refused, key, block and output have the lengths that they need
-no_cause : (key block out : List ℕ) → encrypt_refusal key block out ≡ 0 → (key_fits key ≡ true) × (length block ≡ 16) × (length out ≡ 16)
-unfolding encrypt_refusal
-no_cause key block out e =
-    let a = first_passed _ _ _ e (omega arith) in
-    let b = first_passed _ _ _ a.1 (omega arith) in
-    let c = first_passed _ _ _ b.1 (omega arith) in
-    (search not-false, search agreed, search agreed)
-
--- answer is what was found of the call's refusal
-module _ (key block out : List ℕ) {answer : Answer} (told : answer_refusal answer ≡ encrypt_refusal key block out) where
-  -- a refusal leaves the output as it was
-  pub refused : (cause : Cause) → answer ≡ Refused cause → out ≡ encrypt_output key block out
+module _ (key block out : List ℕ) where
+  -- a cause that is found leaves the output as it was
+  pub refused : (cause : Cause) → cause_number cause ≡ encrypt_refusal key block out → out ≡ encrypt_output key block out
   unfolding encrypt_output
-  refused cause r = rw (ne_eqb (encrypt_refusal key block out) 0 (λ z. cause_refuses cause (sym (ap answer_refusal r) ∙ told ∙ z)))
+  refused cause e = rw (ne_eqb (encrypt_refusal key block out) 0 (λ z. cause_refuses cause (e ∙ z)))
 
-  none : answer ≡ Done → encrypt_refusal key block out ≡ 0
-  none d = sym told ∙ ap answer_refusal d
+  -- where none is found, key, block and output have the lengths that they need
+  pub lengths-fit : 0 ≡ encrypt_refusal key block out → (key_fits key ≡ true) × (length block ≡ 16) × (length out ≡ 16)
+  unfolding encrypt_refusal
+  lengths-fit e =
+      let a = first_passed _ _ _ (sym e) (omega arith) in
+      let b = first_passed _ _ _ a.1 (omega arith) in
+      let c = first_passed _ _ _ b.1 (omega arith) in
+      (search not-false, search agreed, search agreed)
 
-  pub lengths-fit : answer ≡ Done → (key_fits key ≡ true) × (length block ≡ 16) × (length out ≡ 16)
-  lengths-fit d = no_cause key block out (none d)
-
-  -- and what is written is the output
-  pub written : (k b x w : List ℕ) → answer ≡ Done → k ≡ key → b ≡ block → x ≡ aes k b → w ≡ x → w ≡ encrypt_output key block out
+  -- and AES of the block is the output
+  pub ciphered : 0 ≡ encrypt_refusal key block out → aes key block ≡ encrypt_output key block out
   unfolding encrypt_output
-  written k b x w d ek eb ex ew = ew ∙ ex ∙ rw (none d, ek, eb)
+  ciphered e = rw (sym e)

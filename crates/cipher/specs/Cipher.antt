@@ -29,7 +29,7 @@ Nr key = Nk key + 6
 unfoldable pub rows_of : List ℕ → List (List ℕ)
 rows_of key = schedule (Nk key) (Nr key) key
 
--- AES of a block, by the key's length (section 5); which lengths are taken is keyFits (specs/Answers)
+-- AES of a block, by the key's length (section 5); which lengths are taken is key_fits (specs/Answers)
 unfoldable pub aes : List ℕ → List ℕ → List ℕ
 aes key input = Cipher (Nr key) input (rows_of key)
 

@@ -1,8 +1,6 @@
 -- What serves the contracts of the code alone, and no other definition: the readers of its answers; the schedule by the steps in which it is made,
 -- row by row, of which proofs/KeyRows shows that they are KEYEXPANSION's (FIPS 197, 5.2); and how states stand in planes.
-use Rattle.std.specs.Prelude.{cond, List, ◌++◌, ℕ, ◌+◌, ◌-◌, ◌*◌, ◌/◌, ◌%◌, ◌≤◌, ◌<◌, ◌≡◌, ltb, length, get_or}
-use Rattle.cipher.specs.declared.Answer.{Answer}
-use Rattle.cipher.specs.declared.Answer.TheVariants.{Done, Refused}
+use Rattle.std.specs.Prelude.{cond, List, Result, Ok, Err, ◌++◌, ℕ, ◌+◌, ◌-◌, ◌*◌, ◌/◌, ◌%◌, ◌≤◌, ◌≡◌, ltb, length, get_or}
 use Rattle.cipher.specs.declared.Cause.{Cause}
 use Rattle.cipher.specs.declared.Cause.TheVariants.{InputLength, OutputLength}
 use Rattle.planes.specs.Tables.{grow, tab, at}
@@ -19,9 +17,9 @@ cause_number InputLength = 1
 cause_number OutputLength = 7
 
 -- the refusal that an answer tells (document 01, "Causes and their numbers"), 0 where the work was done
-abbrev pub answer_refusal : Answer → ℕ
-answer_refusal Done = 0
-answer_refusal (Refused cause) = cause_number cause
+abbrev pub answer_refusal : Result Unit Cause → ℕ
+answer_refusal (Ok _) = 0
+answer_refusal (Err cause) = cause_number cause
 
 -- ---- the rows of a schedule; the key itself fills Nk / 4 of them
 
@@ -65,11 +63,3 @@ row_in q r = get_or q r blank
 -- the state of block b of sixteen: its byte in row r and column c stands in lane 16·c + b of set r
 unfoldable pub state_in : List Planes → ℕ → List ℕ
 state_in q b = tab 16 (λ i. lane (row_in q (i % 4)) (16 * (i / 4) + b))
-
--- how many of the bytes that are left, which are whole blocks, are taken next: those of sixteen blocks, or of one
-pub record Portion (left r : ℕ) : Type 0 where
-  pub whole : r % 16 ≡ 0
-  pub some : 0 < r
-  pub fits : left % 16 ≡ 0 → 0 < left → r ≤ left
-  pub sixteen : 256 ≤ r → r ≡ 256
-  pub one : r < 256 → r ≡ 16

@@ -28,26 +28,25 @@ impl Key {
         requires { key_fits s.now ≡ true }
         ensures { result.bytes ≡ s.now }
     {
-        let bytes = sixteen(s);
-        Key { bytes }
+        Key {
+            bytes: *s.as_array().unwrap(),
+        }
     }
 
     // Serves the layers above: fills the rows that the caller holds with the key's schedule. Who encrypts many blocks does it once; handed over by
-    // value to several callers, the rows would be copied each time.
+    // value to several callers, the rows would be copied each time. They are a slice, since other lengths of keys have other numbers of rows.
     pub fn fill_rows(self, rows: &mut [[u8; 16]])
         requires { length rows.old ≡ 11 }
         ensures { rows.new ≡ rows_of self.bytes }
     {
-        let bytes = self.bytes;
-        fill(&bytes, rows);
+        fill(&self.bytes, rows);
     }
 
     // Serves the layers above: AES of one block, by value.
     pub fn encrypt(self, block: [u8; 16]) -> [u8; 16]
         ensures { result ≡ aes self.bytes block }
     {
-        let rows = expand(self);
-        cipher(&rows, block)
+        cipher(&expand(self), block)
     }
 }
 
@@ -55,22 +54,7 @@ impl Key {
 fn expand(key: Key) -> [[u8; 16]; ROWS]
     ensures { result ≡ rows_of key.bytes }
 {
-    let blank = [0u8; 16];
-    let mut rows = [blank; ROWS];
+    let mut rows = [[0u8; 16]; ROWS];
     key.fill_rows(&mut rows);
     rows
-}
-
-// The bytes of a slice of sixteen.
-pub fn sixteen(s: &[u8]) -> [u8; 16]
-    requires { length s.now ≡ 16 }
-    ensures { result ≡ s.now }
-{
-    let mut t = [0u8; 16];
-    let mut i = 0;
-    while i < 16 {
-        t[i] = s[i];
-        i += 1;
-    }
-    t
 }

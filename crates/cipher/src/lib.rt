@@ -7,12 +7,11 @@ mod keys;
 mod rounds;
 mod schedule;
 
-ghost use Rattle.std.specs.Prelude.{◌≡◌, length};
+ghost use Rattle.std.specs.Prelude.{◌≡◌};
 ghost use Rattle.cipher.specs.Answers.{encrypt_refusal, encrypt_output};
-ghost use Rattle.cipher.specs.Clauses.{answer_refusal};
+ghost use Rattle.cipher.specs.Clauses.{cause_number, answer_refusal};
 
 pub use batches::encrypt_blocks;
-use keys::sixteen;
 pub use keys::{Key, ROWS};
 
 // Why a block call is refused. Document 01's numbers for the causes are in specs/Clauses.
@@ -24,50 +23,40 @@ pub enum Cause {
     OutputLength,
 }
 
-#[derive(Clone, Copy)]
-pub enum Answer {
-    Done,
-    Refused(Cause),
+impl From<Cause> for u64 {
+    ghost from_gives = { λ cause n. n ≡ cause_number cause };
+
+    fn from(cause: Cause) -> u64 {
+        match cause {
+            Cause::InputLength => 1,
+            Cause::OutputLength => 7,
+        }
+    }
 }
 
 // Encrypts one block. Refused, in this order, where key or block is not 16 bytes and where the output is not; the output then
 // stays as it was. The time depends on no byte.
-pub fn encrypt(key: &[u8], block: &[u8], out: &mut [u8]) -> Answer
+pub fn encrypt(key: &[u8], block: &[u8], out: &mut [u8]) -> Result<(), Cause>
     ensures answer { answer_refusal result ≡ encrypt_refusal key.now block.now out.old }
     ensures output { out.new ≡ encrypt_output key.now block.now out.old }
 {
-    let answer = encrypt_refusal(key, block, out);
-    if let Answer::Refused(_) = answer {
-        return answer;
-    }
-    write(Key::from_bytes(key).encrypt(sixteen(block)), out);
-    answer
+    encrypt_refusal(key, block, out)?;
+    out.copy_from_slice(&Key::from_bytes(key).encrypt(*block.as_array().unwrap()));
+    Ok(())
 }
 
-// The refusal of the block call, or Done.
-fn encrypt_refusal(key: &[u8], block: &[u8], out: &[u8]) -> Answer
+// The refusal of the block call, where there is one.
+fn encrypt_refusal(key: &[u8], block: &[u8], out: &[u8]) -> Result<(), Cause>
     ensures { answer_refusal result ≡ encrypt_refusal key.now block.now out.now }
 {
     if !Key::fits(key) {
-        return Answer::Refused(Cause::InputLength);
+        return Err(Cause::InputLength);
     }
     if block.len() != 16 {
-        return Answer::Refused(Cause::InputLength);
+        return Err(Cause::InputLength);
     }
     if out.len() != 16 {
-        return Answer::Refused(Cause::OutputLength);
+        return Err(Cause::OutputLength);
     }
-    Answer::Done
-}
-
-// Writes sixteen bytes to a slice of sixteen.
-fn write(s: [u8; 16], out: &mut [u8])
-    requires { length out.old ≡ 16 }
-    ensures { out.new ≡ s }
-{
-    let mut i = 0;
-    while i < 16 {
-        out[i] = s[i];
-        i += 1;
-    }
+    Ok(())
 }

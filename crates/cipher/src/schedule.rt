@@ -25,13 +25,7 @@ fn key_row(key: &[u8], r: usize) -> [u8; 16]
     requires { 16 * r + 16 ≤ length key.now }
     ensures { result ≡ tab 16 (λ i. at key.now (16 * r + i)) }
 {
-    let mut t = [0u8; 16];
-    let mut i = 0;
-    while i < 16 {
-        t[i] = key[16 * r + i];
-        i += 1;
-    }
-    t
+    *key[16 * r..16 * r + 16].as_array().unwrap()
 }
 
 // What is added to the first word of row r, from the row before it; d rows are the key's own. All sixteen bytes go through the
@@ -63,10 +57,8 @@ fn next_row(back: [u8; 16], t: [u8; 4]) -> [u8; 16]
     ensures { result ≡ next_row back t }
 {
     let mut row = back;
-    let mut i = 0;
-    while i < 16 {
+    for i in 0..16 {
         row[i] = back[i] ^ added_byte(t, row, i);
-        i += 1;
     }
     row
 }
@@ -82,10 +74,7 @@ fn row_at(key: &[u8], rows: &[[u8; 16]], r: usize) -> [u8; 16]
     if r < d {
         return key_row(key, r);
     }
-    let back = rows[r - d];
-    let prev = rows[r - 1];
-    let t = first_word(prev, r, d);
-    next_row(back, t)
+    next_row(rows[r - d], first_word(rows[r - 1], r, d))
 }
 
 // Fills the rows with the schedule of a key, first row first.
@@ -93,10 +82,7 @@ pub fn fill(key: &[u8], rows: &mut [[u8; 16]])
     requires { Expands key.now (length rows.old) }
     ensures { rows.new ≡ tab (length rows.old) (row_of key.now) }
 {
-    let mut r = 0;
-    while r < rows.len() {
-        let row = row_at(key, rows, r);
-        rows[r] = row;
-        r += 1;
+    for r in 0..rows.len() {
+        rows[r] = row_at(key, rows, r);
     }
 }

@@ -1,24 +1,24 @@
 // Runs the published vectors of AES-128 in `stdin`: FIPS 197's own examples, then NIST's. `stdout`, what this must print, comes
 // from the vectors and not from the cipher. In this crate's folder:
 //   awk '/^#|^CIPHERTEXT/; /^CIPHERTEXT/ { n += length($3) / 32 } END { print "blocks", n }' stdin > stdout
+// What can't be written is lost.
 #![tactic(auto)]
 
-ghost use Rattle.std.specs.Prelude.{◌+◌, ◌<◌, ◌≤◌, length};
+ghost use Rattle.std.specs.Prelude.{◌<◌, ◌≤◌, length};
 
-use cipher::Answer;
 use std::io::Read;
+use std::{array, fmt};
 
 // Prints the comments as they stand, for each PLAINTEXT line the CIPHERTEXT line, and at the end the number of blocks.
 fn main(rt: HostRuntime) {
     let mut text = [0u8; 65536];
     let n = read_full(&rt, &mut text);
     if n == text.len() {
-        say(&rt, b"input too long\n");
+        let _ = println!(rt; "input too long");
         return;
     }
     let blocks = run(&rt, &text[..n]);
-    say(&rt, b"blocks ");
-    let _ = rt.println(blocks);
+    let _ = println!(rt; "blocks {blocks}");
 }
 
 // Reads until the buffer is full, the input ends or a read fails, and answers how many bytes it put at the buffer's start.
@@ -27,122 +27,54 @@ fn read_full(rt: &HostRuntime, buf: &mut [u8]) -> usize
 {
     let mut stdin = rt.stdin();
     let mut n = 0;
-    while n < buf.len() {
-        match stdin.read(&mut buf[n..]) {
-            Ok(0) | Err(_) => return n,
-            Ok(k) => n += k,
-        }
+    while let Ok(k) = stdin.read(&mut buf[n..])
+        && k > 0
+    {
+        n += k;
     }
     n
 }
 
-// Writes a text. What can't be written is lost.
-fn say(rt: &impl Print, text: &[u8]) {
-    let _ = rt.write_all(text);
-}
-
-// Goes through the lines, and answers how many blocks were encrypted.
-fn run(rt: &impl Print, text: &[u8]) -> usize {
+// Goes through the lines, and answers how many blocks were encrypted. It takes the runtime whole: of a function over any `Print` today's prover
+// writes no invariant for this loop that has a type.
+fn run(rt: &HostRuntime, text: &[u8]) -> usize {
     let mut key = [0u8; 16];
     let mut blocks = 0;
-    let mut at = 0;
-    while at < text.len() {
-        let next = next_line(text, at);
-        let line = &text[at..next];
-        print_comment(rt, line);
-        let k = key_after(line, key);
-        key = k;
-        blocks += encrypt_line(rt, line, key);
-        at = next;
-    }
-    blocks
-}
-
-// Where the line after the one at `at` starts.
-fn next_line(text: &[u8], at: usize) -> usize
-    requires { at < length text.now }
-    ensures { (at < result) × (result ≤ length text.now) }
-{
-    let mut next = at + 1;
-    while next < text.len() && text[next - 1] != b'\n' {
-        next += 1;
-    }
-    next
-}
-
-// Prints a comment as it stands.
-fn print_comment(rt: &impl Print, line: &[u8]) {
-    if line.len() > 0 && line[0] == b'#' {
-        say(rt, line);
-    }
-}
-
-// The key that holds after a line: that of a KEY line with all its digits, else the one before.
-fn key_after(line: &[u8], key: [u8; 16]) -> [u8; 16] {
-    let at = after(line, b"KEY = ");
-    if at == 0 {
-        return key;
-    }
-    if line.len() - at < 32 {
-        return key;
-    }
-    block_at(line, at)
-}
-
-// Encrypts a PLAINTEXT line block by block, prints the CIPHERTEXT line, and answers how many blocks there were.
-fn encrypt_line(rt: &impl Print, line: &[u8], key: [u8; 16]) -> usize
-    ensures { result ≤ length line.now }
-{
-    let mut at = after(line, b"PLAINTEXT = ");
-    if at == 0 {
-        return 0;
-    }
-    say(rt, b"CIPHERTEXT = ");
-    let mut blocks = 0;
-    while line.len() - at >= 32 {
-        print_encrypted(rt, key, block_at(line, at));
-        at += 32;
-        blocks += 1;
-    }
-    say(rt, b"\n");
-    blocks
-}
-
-// Where a line goes on after `word`, or 0 if it does not start with it.
-fn after(line: &[u8], word: &[u8]) -> usize
-    ensures { result ≤ length line.now }
-{
-    if line.len() < word.len() {
-        return 0;
-    }
-    let mut i = 0;
-    while i < word.len() {
-        if line[i] != word[i] {
-            return 0;
+    for line in text.split_inclusive(|c| *c == b'\n') {
+        if line.starts_with(b"#") {
+            let _ = rt.write_all(line);
         }
-        i += 1;
+        if let Some(next) = block_after(line, b"KEY = ") {
+            key = next;
+        }
+        if let Some(digits) = line.strip_prefix(b"PLAINTEXT = ") {
+            blocks += encrypt_line(rt, digits, key);
+        }
     }
-    i
+    blocks
 }
 
-// The sixteen bytes that 32 digits from `at` on spell.
-fn block_at(line: &[u8], at: usize) -> [u8; 16]
-    requires { at + 32 ≤ length line.now }
-{
-    let mut block = [0u8; 16];
-    let mut i = 0;
-    while i < 16 {
-        block[i] = byte_at(line, at + 2 * i);
-        i += 1;
-    }
-    block
+// The block whose digits stand behind `word`, where a line starts with it and has all of them.
+fn block_after(line: &[u8], word: &[u8]) -> Option<[u8; 16]> {
+    line.strip_prefix(word)?.first_chunk().map(block_of)
 }
 
-// The byte that two digits spell.
-fn byte_at(line: &[u8], at: usize) -> u8
-    requires { at + 1 < length line.now }
+// Encrypts a PLAINTEXT line's digits block by block, prints the CIPHERTEXT line, and answers how many blocks there were.
+fn encrypt_line(rt: &impl Print, digits: &[u8], key: [u8; 16]) -> usize
+    ensures { result ≤ length digits.now }
 {
-    value(line[at]) * 16 + value(line[at + 1])
+    let (blocks, _) = digits.as_chunks();
+    let _ = print!(rt; "CIPHERTEXT = ");
+    for block in blocks {
+        print_encrypted(rt, key, block_of(block));
+    }
+    let _ = println!(rt);
+    blocks.len()
+}
+
+// The sixteen bytes that 32 digits spell.
+fn block_of(digits: &[u8; 32]) -> [u8; 16] {
+    array::from_fn(|i| 16 * value(digits[2 * i]) + value(digits[2 * i + 1]))
 }
 
 // The value of a hex digit in lower case, and 0 of any other byte.
@@ -159,23 +91,21 @@ fn value(c: u8) -> u8
 // Encrypts one block and prints the result. No call is refused, since the arrays have 16 bytes: `refused` would be a fault.
 fn print_encrypted(rt: &impl Print, key: [u8; 16], block: [u8; 16]) {
     let mut out = [0u8; 16];
-    match cipher::encrypt(&key, &block, &mut out) {
-        Answer::Done => print_bytes(rt, out),
-        Answer::Refused(_) => say(rt, b"refused"),
-    }
+    let _ = match cipher::encrypt(&key, &block, &mut out) {
+        Ok(()) => rt.print(Hex(&out)),
+        Err(_) => rt.print("refused"),
+    };
 }
 
-// Prints bytes as hex digits in lower case.
-fn print_bytes(rt: &impl Print, s: [u8; 16]) {
-    let mut i = 0;
-    while i < 16 {
-        let x = wide(s[i]);
-        let _ = print!(rt; "{x:02x}");
-        i += 1;
-    }
-}
+// Bytes, which are printed as hex digits in lower case.
+#[derive(Drop)]
+struct Hex<'a>(&'a [u8]);
 
-// A byte as the number that is printed.
-fn wide(x: u8) -> u64 {
-    x as u64
+impl<'a> fmt::Display for Hex<'a> {
+    fn fmt<W: fmt::Write>(&self, f: &mut fmt::Formatter<W>) -> fmt::Result {
+        for x in self.0 {
+            write!(f, "{x:02x}")?;
+        }
+        Ok(())
+    }
 }

@@ -4,21 +4,15 @@ use mathlib.Core.Path.{◌≡◌, refl, sym, ap, ap₂, ◌∙◌}
 use mathlib.Core.Logic.{◌⊎◌, inl, inr, ◌≢◌}
 use mathlib.Core.List.{List, [], ◌∷◌}
 use Prim.Native.Nat.{ℕ, zero, suc, ◌+◌, ◌*◌, ◌%◌, ◌≤◌, ◌<◌}
-use native.Mathlib.Nat.{add-zero, zero-add, mul-zero, mul-suc, mul-le-mul_left, not-suc-le-zero, le_refl, eq-or-lt_of_le, le_of_suc-le-suc}
+use native.Mathlib.Nat.{add-zero, zero-add, mul-suc, mul-le-mul_left, not-suc-le-zero, le_refl, eq-or-lt_of_le, le_of_suc-le-suc}
 use native.Mathlib.Nat.{mul-add-mod_self_left, mod-eq_of_lt}
 use native.Mathlib.Omega.{arith}
-use lib.ListN.{length, get_or, set, length-set}
-use lib.Seq.{get_or-set_same, get_or-set_other}
-
--- t with vs written down column k of rows of s places, from row r on
-unfoldable pub down : ℕ → ℕ → ℕ → List ℕ → List ℕ → List ℕ
-down s k r [] t = t
-down s k r (v ∷ vs) t = down s k (suc r) vs (set t (s * r + k) v)
-
--- the n values of f from r on
-unfoldable pub listed : (ℕ → ℕ) → ℕ → ℕ → List ℕ
-listed f r zero = []
-listed f r (suc n) = f r ∷ listed f (suc r) n
+use native.Mathlib.Numerals.{add-one}
+use lib.ListN.{length, get_or, set, drop, length-set, drop_of_length-le}
+use Rattle.std.proofs.lemmas.List.{ext_get_or}
+use Rattle.clmul.specs.Halves.{listed}
+use Rattle.clmul.specs.Tables.{down}
+use lib.Seq.{drop-cons, get_or-set_same, get_or-set_other}
 
 shift : (r j : ℕ) → r + suc j ≡ suc r + j
 shift r j = omega arith
@@ -28,7 +22,7 @@ unfolding listed
 length-listed f r zero = refl
 length-listed f r (suc n) = ap suc (length-listed f (suc r) n)
 
-get_d_listed : (f : ℕ → ℕ) (r n j : ℕ) → j < n → get_or (listed f r n) j 0 ≡ f (r + j)
+pub get_d_listed : (f : ℕ → ℕ) (r n j : ℕ) → j < n → get_or (listed f r n) j 0 ≡ f (r + j)
 unfolding listed
 get_d_listed f r zero j h = absurd (not-suc-le-zero h)
 get_d_listed f r (suc n) zero h = rw add-zero
@@ -82,12 +76,6 @@ pub record Columns (s n : ℕ) (value : ℕ → ℕ → ℕ) (k : ℕ) (t : List
 pub columns_start : (s n : ℕ) (value : ℕ → ℕ → ℕ) (t : List ℕ) → length t ≡ s * n → Columns s n value 0 t
 columns_start s n value t e = record { size = e; each = λ j i h l. absurd (not-suc-le-zero l) }
 
--- a turn's stores, the first of which code makes at k and not at s * 0 + k
-turn-stores :
-    (s n k : ℕ) (f : ℕ → ℕ) (v : ℕ) (vs t : List ℕ) → listed f 0 n ≡ v ∷ vs → down s k 1 vs (set t k v) ≡ down s k 0 (listed f 0 n) t
-unfolding down
-turn-stores s n k f v vs t e = rw e (ap (λ (p : ℕ). down s k 1 vs (set t p v)) (omega (arith, mul-zero s)))
-
 columns_each :
     (s n k : ℕ) (value : ℕ → ℕ → ℕ) (t : List ℕ) → Columns s n value k t → k < s → (j i : ℕ) → j < n → (i ≡ k) ⊎ (i < k)
     → get_or (down s k 0 (listed (λ m. value m k) 0 n) t) (s * j + i) 0 ≡ value j i
@@ -101,13 +89,41 @@ columns_each s n k value t c h j i l (inl e) =
 columns_each s n k value t c h j i l (inr b) =
     down_other s k 0 _ t (s * j + i) (λ m _ e. omega (arith, column_of s j i m k (omega arith) h e)) ∙ c.each j i l b
 
--- one column more: v and vs are written down it
+-- one column more
 pub columns_next :
-    {s n : ℕ} {value : ℕ → ℕ → ℕ} {k : ℕ} {t : List ℕ} (v : ℕ) (vs : List ℕ) → Columns s n value k t → k < s
-    → listed (λ j. value j k) 0 n ≡ v ∷ vs → Columns s n value (k + 1) (down s k 1 vs (set t k v))
-columns_next {s} {n} {value} {k} {t} v vs c h e =
-    rw (turn-stores s n k (λ j. value j k) v vs t e)
+    {s n : ℕ} {value : ℕ → ℕ → ℕ} {k : ℕ} {t : List ℕ} (column : List ℕ) → Columns s n value k t → k < s
+    → column ≡ listed (λ j. value j k) 0 n → Columns s n value (k + 1) (down s k 0 column t)
+columns_next {s} {n} {value} {k} {t} column c h e =
     record {
-      size = length_down s k 0 _ t ∙ c.size;
-      each = λ j i l b. columns_each s n k value t c h j i l (eq-or-lt_of_le (omega arith));
+      size = length_down s k 0 column t ∙ c.size;
+      each = λ j i l b. ap (λ (vs : List ℕ). get_or (down s k 0 vs t) (s * j + i) 0) e ∙ columns_each s n k value t c h j i l (eq-or-lt_of_le (omega arith));
     }
+
+-- ---- the loop that writes one
+
+-- what is still to be written makes of t what the column makes of t0
+pub record Writing (s k : ℕ) (column t0 : List ℕ) (j : ℕ) (t : List ℕ) : Type 0 where
+  pub size : length t ≡ length t0
+  pub rest : down s k j (drop j column) t ≡ down s k 0 column t0
+
+pub writing_start : (s k : ℕ) (column t : List ℕ) → Writing s k column t 0 t
+writing_start s k column t = record { size = refl; rest = refl }
+
+pub writing_next : {s k : ℕ} {column t0 : List ℕ} {j : ℕ} {t : List ℕ} → Writing s k column t0 j t → j < length column
+    → Writing s k column t0 (j + 1) (set t (s * j + k) (get_or column j 0))
+unfolding down
+writing_next {s} {k} {column} {j = j} {t} w h =
+    record {
+      size = length-set t (s * j + k) _ ∙ w.size;
+      rest = rw add-one (ap (λ (vs : List ℕ). down s k j vs t) (sym (drop-cons column j 0 h))) ∙ w.rest;
+    }
+
+pub writing_done : {s k : ℕ} {column t0 : List ℕ} {j : ℕ} {t : List ℕ} → Writing s k column t0 j t → length column ≤ j → t ≡ down s k 0 column t0
+unfolding down
+writing_done {s} {k} {column} {j = j} {t} w h = ap (λ (vs : List ℕ). down s k j vs t) (sym (drop_of_length-le column h)) ∙ w.rest
+
+-- a list by its length and its entries
+pub listed_of : (f : ℕ → ℕ) (n : ℕ) (t : List ℕ) → length t ≡ n → ((j : ℕ) → j < n → get_or t j 0 ≡ f j) → t ≡ listed f 0 n
+listed_of f n t e h =
+    ext_get_or 0 t (listed f 0 n) (e ∙ sym (length-listed f 0 n))
+    (λ j l. h j (omega arith) ∙ sym (get_d_listed f 0 n j (omega arith) ∙ ap f (zero-add j)))

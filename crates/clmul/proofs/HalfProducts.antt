@@ -1,15 +1,16 @@
 -- The carry-less product and square of halves from integer products of planes: a half is the sum of its planes (`planes`), Karatsuba's rule is
 -- applied twice (`mixed-⊗`), and what is put together from mixtures is additive in them (`unmixed-added`). Rests on HolesLaws.
 use mathlib.Core.Path.{◌≡◌, refl, sym, ap, ap₂, ◌∙◌}
+use mathlib.Core.List.{List, [], ◌∷◌}
 use Prim.Native.Nat.{ℕ, zero, suc, ◌+◌, ◌*◌, ◌/◌, ◌%◌, ◌^◌, ◌<◌}
 use native.Mathlib.Nat.{mod-lt, mod-eq_of_lt, mod-one, lt_of_lt_of_le, pow-le-pow_right, zero-lt-suc, pow-suc}
 use native.Mathlib.Omega.{arith}
+use lib.ListN.{get_or}
 use lib.Arith.{mod-mul}
 use lib.Pow.{shr-shr}
 use Rattle.clmul.specs.Xor.{xor}
 use Rattle.clmul.specs.Carryless.{◌⊗◌}
-use Rattle.clmul.specs.declared.halves.Mixtures.{Mixtures}
-use Rattle.clmul.specs.Halves.{plane, karatsuba, mixtures_of, added_to, unmixed}
+use Rattle.clmul.specs.Halves.{plane, karatsuba, listed, mixtures_of, added_to, unmixed}
 use Rattle.clmul.proofs.Xor.{xor_zero_l, xor_lt, xor-split, xor-add, xor-shl, xor-swap, xor_assoc, xors, odd-lt}
 use Rattle.clmul.proofs.Products.{karatsuba-⊗, square-xor, square-shl}
 use Rattle.clmul.proofs.HolesLaws.{plane-xor, plane-lt, plane-⊗}
@@ -43,7 +44,7 @@ pair_next n x =
     low : x / 2 % 2 * 2 + x % 2 ≡ x % 4
     low = omega arith
 
-planes : (n x : ℕ) → xor (pair n (x / 4) * 4) (pair n x) ≡ x % 16 ^ n
+pub planes : (n x : ℕ) → xor (pair n (x / 4) * 4) (pair n x) ≡ x % 16 ^ n
 planes zero x = ap₂ (λ (u v : ℕ). xor (u * 4) v) (pair-none (x / 4)) (pair-none x) ∙ xor_zero_l 0 ∙ sym (mod-one x)
 planes (suc n) x =
     ap₂ (λ (u v : ℕ). xor (u * 4) v) (pair_next n (x / 4)) (pair_next n x)
@@ -82,12 +83,12 @@ pairs-xor x =
     (sym (plane-xor 8 (x / 4) x))
 
 -- the products of the mixtures of two halves, put together
-abbrev joined : Mixtures → Mixtures → ℕ
+abbrev joined : List ℕ → List ℕ → ℕ
 joined x y =
     karatsuba 2
-    (karatsuba 1 (x.p3 ⊗ y.p3) (x.p2 ⊗ y.p2) (x.p23 ⊗ y.p23))
-    (karatsuba 1 (x.p1 ⊗ y.p1) (x.p0 ⊗ y.p0) (x.p01 ⊗ y.p01))
-    (karatsuba 1 (x.p13 ⊗ y.p13) (x.p02 ⊗ y.p02) (x.all ⊗ y.all))
+    (karatsuba 1 (get_or x 3 0 ⊗ get_or y 3 0) (get_or x 2 0 ⊗ get_or y 2 0) (get_or x 5 0 ⊗ get_or y 5 0))
+    (karatsuba 1 (get_or x 1 0 ⊗ get_or y 1 0) (get_or x 0 0 ⊗ get_or y 0 0) (get_or x 4 0 ⊗ get_or y 4 0))
+    (karatsuba 1 (get_or x 7 0 ⊗ get_or y 7 0) (get_or x 6 0 ⊗ get_or y 6 0) (get_or x 8 0 ⊗ get_or y 8 0))
 
 mixed-⊗ : (x y : ℕ) → joined (mixtures_of x) (mixtures_of y) ≡ x % 2 ^ 32 ⊗ (y % 2 ^ 32)
 unfolding mixtures_of
@@ -133,21 +134,21 @@ pair-added : (t u v a b c d : ℕ)
 pair-added t u v a b c d =
     karatsuba_cong 1 (product-added t a c) (product-added u b d) (product-added v (xor a b) (xor c d)) ∙ karatsuba-xor 1 _ _ _ _ _ _
 
-pub unmixed-added : (t : Mixtures) (x y : ℕ) → unmixed (added_to t (mixtures_of x) (mixtures_of y)) ≡ xor (unmixed t) (x % 2 ^ 32 ⊗ (y % 2 ^ 32))
+pub unmixed-added : (t : List ℕ) (x y : ℕ) → unmixed (added_to t (mixtures_of x) (mixtures_of y)) ≡ xor (unmixed t) (x % 2 ^ 32 ⊗ (y % 2 ^ 32))
 unmixed-added t x y = added ∙ ap (xor (unmixed t)) (mixed-⊗ x y)
   where
     added : unmixed (added_to t (mixtures_of x) (mixtures_of y)) ≡ xor (unmixed t) (joined (mixtures_of x) (mixtures_of y))
     added =
-        unfold unmixed added_to mixtures_of in
+        unfold unmixed added_to listed mixtures_of in
         karatsuba_cong 2
-        (pair-added t.p3 t.p2 t.p23 (x / 8) (x / 4) (y / 8) (y / 4))
-        (pair-added t.p1 t.p0 t.p01 (x / 2) x (y / 2) y)
-        (pair-added t.p13 t.p02 t.all (xor (x / 8) (x / 2)) (xor (x / 4) x) (xor (y / 8) (y / 2)) (xor (y / 4) y))
+        (pair-added (get_or t 3 0) (get_or t 2 0) (get_or t 5 0) (x / 8) (x / 4) (y / 8) (y / 4))
+        (pair-added (get_or t 1 0) (get_or t 0 0) (get_or t 4 0) (x / 2) x (y / 2) y)
+        (pair-added (get_or t 7 0) (get_or t 6 0) (get_or t 8 0) (xor (x / 8) (x / 2)) (xor (x / 4) x) (xor (y / 8) (y / 2)) (xor (y / 4) y))
         ∙ karatsuba-xor 2 _ _ _ _ _ _
 
 -- no products, no sum
-abbrev pub none : Mixtures
-none = record { p0 = 0; p1 = 0; p2 = 0; p3 = 0; p01 = 0; p23 = 0; p02 = 0; p13 = 0; all = 0 }
+abbrev pub none : List ℕ
+none = 0 ∷ 0 ∷ 0 ∷ 0 ∷ 0 ∷ 0 ∷ 0 ∷ 0 ∷ 0 ∷ []
 
 pub unmixed-none : unmixed none ≡ 0
 unfolding unmixed karatsuba plane xor

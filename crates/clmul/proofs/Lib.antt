@@ -11,3 +11,4 @@ pub mod WordLaws
 pub mod Columns
 pub mod Totals
 pub mod RowLaws
+pub mod FromFn

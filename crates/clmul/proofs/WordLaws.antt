@@ -1,16 +1,17 @@
 -- Words as code works on them: masks, shifts and records of words, and the numbers they stand for. Rests on HalfProducts and Products.
 use mathlib.Core.Path.{◌≡◌, sym, ap, ap₂, ◌∙◌}
+use mathlib.Core.List.{List, [], ◌∷◌}
 use Prim.Native.Nat.{ℕ, ◌+◌, ◌*◌, ◌/◌, ◌%◌, ◌^◌, ◌≤◌, ◌<◌}
 use native.Mathlib.Nat.{lt_of_lt_of_le, pow-le-pow_right, zero-lt-suc}
 use native.Mathlib.Nat.{mod-lt, mod-eq_of_lt, mul-mod_left, add-zero, lt_of_le_of_lt, le_of_lt, mul-le-mul_left}
 use native.Mathlib.Omega.{arith}
+use lib.ListN.{get_or}
 use lib.Bits.{bit_and, bit_xor, and_mask}
 use lib.Arith.{digits_lt}
 use lib.Pow.{pow_pos, pow-add, shl_lt, shl_exact, shl-shr, shr_lt, split, high, low, mod-pow-add}
 use lib.Dec.{lit<}
 use Rattle.clmul.specs.Xor.{xor}
 use Rattle.clmul.specs.Carryless.{◌⊗◌}
-use Rattle.clmul.specs.declared.halves.Mixtures.{Mixtures}
 use Rattle.clmul.specs.declared.karatsuba.Double.{Double}
 use Rattle.clmul.specs.Halves.{plane, karatsuba, mixtures_of, added_to, unmixed}
 use Rattle.clmul.specs.Tables.{double, wide, part}
@@ -43,16 +44,13 @@ halves-fit x y p q = lt_of_le_of_lt (mul-le-mul_left x (le_of_lt q)) (shl_lt 32 
 
 -- ---- mixtures
 
--- the record of nine words
-abbrev words : (a b c d e f g h i : ℕ) → Mixtures
-words a b c d e f g h i = record { p0 = a; p1 = b; p2 = c; p3 = d; p01 = e; p23 = f; p02 = g; p13 = h; all = i }
+-- nine words
+abbrev words : (a b c d e f g h i : ℕ) → List ℕ
+words a b c d e f g h i = a ∷ b ∷ c ∷ d ∷ e ∷ f ∷ g ∷ h ∷ i ∷ []
 
 words_cong : {a b c d e f g h i a' b' c' d' e' f' g' h' i' : ℕ} → a ≡ a' → b ≡ b' → c ≡ c' → d ≡ d' → e ≡ e' → f ≡ f' → g ≡ g' → h ≡ h' → i ≡ i'
     → words a b c d e f g h i ≡ words a' b' c' d' e' f' g' h' i'
-words_cong {a} {b} {c} {d} {e} {f} {g} {h} {i} {a'} {b'} {c'} {d'} {e'} {f'} {g'} {h'} p q r s t u v w x =
-    ap₂ (λ (k l : ℕ). words k l c d e f g h i) p q ∙ ap₂ (λ (k l : ℕ). words a' b' k l e f g h i) r s
-    ∙ ap₂ (λ (k l : ℕ). words a' b' c' d' k l g h i) t u ∙ ap₂ (λ (k l : ℕ). words a' b' c' d' e' f' k l i) v w
-    ∙ ap (words a' b' c' d' e' f' g' h') x
+words_cong p q r s t u v w x = cc
 
 -- the sum of two planes is the plane of the sum
 sum_of : (u v : ℕ) {a b : ℕ} → a ≡ plane 8 u → b ≡ plane 8 v → bit_xor a b ≡ plane 8 (xor u v)
@@ -74,18 +72,6 @@ mixed-words x =
     let p02 = sum_of (x / 4) x c a in
     let p13 = sum_of (x / 8) (x / 2) d b in
     words_cong a b c d (sum_of (x / 2) x b a) (sum_of (x / 8) (x / 4) d c) p02 p13 (sum_of (xor (x / 8) (x / 2)) (xor (x / 4) x) p13 p02)
-
--- each product added
-pub added-words : (t x y : Mixtures) {a b c d e f g h i : ℕ}
-    → a ≡ x.p0 % 2 ^ 32 * (y.p0 % 2 ^ 32) → b ≡ x.p1 % 2 ^ 32 * (y.p1 % 2 ^ 32) → c ≡ x.p2 % 2 ^ 32 * (y.p2 % 2 ^ 32)
-    → d ≡ x.p3 % 2 ^ 32 * (y.p3 % 2 ^ 32) → e ≡ x.p01 % 2 ^ 32 * (y.p01 % 2 ^ 32) → f ≡ x.p23 % 2 ^ 32 * (y.p23 % 2 ^ 32)
-    → g ≡ x.p02 % 2 ^ 32 * (y.p02 % 2 ^ 32) → h ≡ x.p13 % 2 ^ 32 * (y.p13 % 2 ^ 32) → i ≡ x.all % 2 ^ 32 * (y.all % 2 ^ 32)
-    → words (bit_xor t.p0 a) (bit_xor t.p1 b) (bit_xor t.p2 c) (bit_xor t.p3 d) (bit_xor t.p01 e) (bit_xor t.p23 f)
-    (bit_xor t.p02 g) (bit_xor t.p13 h) (bit_xor t.all i) ≡ added_to t x y
-unfolding added_to xor
-added-words t x y p q r s u v w m n =
-    words_cong (ap (xor t.p0) p) (ap (xor t.p1) q) (ap (xor t.p2) r) (ap (xor t.p3) s) (ap (xor t.p01) u) (ap (xor t.p23) v)
-    (ap (xor t.p02) w) (ap (xor t.p13) m) (ap (xor t.all) n)
 
 -- ---- Karatsuba's rule in one word
 
@@ -122,14 +108,15 @@ joined-pairs h l m p q r = in_word 2 h l m (omega arith) (four (xor_lt 60 _ _ (x
     four : {v : ℕ} → v < 2 ^ 60 → v * 4 < 2 ^ 64
     four s = omega arith
 
-pub unmixed-words : (t : Mixtures) {r a b c : ℕ} → r ≡ karatsuba 2 a b c → a ≡ karatsuba 1 (plane 15 t.p3) (plane 15 t.p2) (plane 15 t.p23)
-    → b ≡ karatsuba 1 (plane 15 t.p1) (plane 15 t.p0) (plane 15 t.p01)
-    → c ≡ karatsuba 1 (plane 15 t.p13) (plane 15 t.p02) (plane 15 t.all) → r ≡ unmixed t
+pub unmixed-words : (t : List ℕ) {r a b c : ℕ} → r ≡ karatsuba 2 a b c
+    → a ≡ karatsuba 1 (plane 15 (get_or t 3 0)) (plane 15 (get_or t 2 0)) (plane 15 (get_or t 5 0))
+    → b ≡ karatsuba 1 (plane 15 (get_or t 1 0)) (plane 15 (get_or t 0 0)) (plane 15 (get_or t 4 0))
+    → c ≡ karatsuba 1 (plane 15 (get_or t 7 0)) (plane 15 (get_or t 6 0)) (plane 15 (get_or t 8 0)) → r ≡ unmixed t
 unfolding unmixed
 unmixed-words t e p q r = e ∙ karatsuba_cong 2 p q r
 
 -- one product of two halves
-pub half-words : (x y : ℕ) {u v s : Mixtures} {r : ℕ} → u ≡ mixtures_of x → v ≡ mixtures_of y → s ≡ added_to none u v → r ≡ unmixed s
+pub half-words : (x y : ℕ) {u v s : List ℕ} {r : ℕ} → u ≡ mixtures_of x → v ≡ mixtures_of y → s ≡ added_to none u v → r ≡ unmixed s
     → r ≡ x % 2 ^ 32 ⊗ (y % 2 ^ 32)
 half-words x y p q e f =
     f ∙ ap unmixed (e ∙ ap₂ (added_to none) p q) ∙ unmixed-added none x y ∙ ap (λ (v : ℕ). xor v (x % 2 ^ 32 ⊗ (y % 2 ^ 32))) unmixed-none ∙ xor_zero_l _

@@ -3,32 +3,11 @@ ghost use Rattle.std.specs.Prelude.{◌≡◌, ◌+◌, ◌*◌, ◌/◌, ◌%�
 ghost use Rattle.clmul.specs.Carryless.{◌⊗◌};
 ghost use Rattle.clmul.specs.Halves;
 
-// The four planes of a half, plane i holding every fourth bit from bit i on, moved to bit 0, and the sums of them that Karatsuba's rule
-// multiplies. Also the nine products of two such.
-#[derive(Clone, Copy)]
-pub struct Mixtures {
-    pub p0: u64,
-    pub p1: u64,
-    pub p2: u64,
-    pub p3: u64,
-    pub p01: u64,
-    pub p23: u64,
-    pub p02: u64,
-    pub p13: u64,
-    pub all: u64,
-}
+use std::array::from_fn;
 
-pub const NONE: Mixtures = Mixtures {
-    p0: 0,
-    p1: 0,
-    p2: 0,
-    p3: 0,
-    p01: 0,
-    p23: 0,
-    p02: 0,
-    p13: 0,
-    all: 0,
-};
+// The four planes of a half, plane i holding every fourth bit from bit i on, moved to bit 0, and behind them the sums of them that Karatsuba's rule
+// multiplies: of 0 and 1, of 2 and 3, of 0 and 2, of 1 and 3, and of all four. Also the nine products of two such.
+pub type Mixtures = [u64; 9];
 
 // Every fourth bit of a half.
 const PLANE: u64 = 0x1111_1111;
@@ -46,17 +25,7 @@ pub fn mixed(x: u64) -> Mixtures
     let p3 = (x >> 3) & PLANE;
     let p02 = p2 ^ p0;
     let p13 = p3 ^ p1;
-    Mixtures {
-        p0,
-        p1,
-        p2,
-        p3,
-        p01: p1 ^ p0,
-        p23: p3 ^ p2,
-        p02,
-        p13,
-        all: p13 ^ p02,
-    }
+    [p0, p1, p2, p3, p1 ^ p0, p3 ^ p2, p02, p13, p13 ^ p02]
 }
 
 // The integer product of the 32 low bits of each. The masks cost nothing: they are what a multiplication of 32 bits reads.
@@ -70,17 +39,7 @@ fn low_product(x: u64, y: u64) -> u64
 pub fn added(t: Mixtures, x: Mixtures, y: Mixtures) -> Mixtures
     ensures { result ≡ Halves.added_to t x y }
 {
-    Mixtures {
-        p0: t.p0 ^ low_product(x.p0, y.p0),
-        p1: t.p1 ^ low_product(x.p1, y.p1),
-        p2: t.p2 ^ low_product(x.p2, y.p2),
-        p3: t.p3 ^ low_product(x.p3, y.p3),
-        p01: t.p01 ^ low_product(x.p01, y.p01),
-        p23: t.p23 ^ low_product(x.p23, y.p23),
-        p02: t.p02 ^ low_product(x.p02, y.p02),
-        p13: t.p13 ^ low_product(x.p13, y.p13),
-        all: t.all ^ low_product(x.all, y.all),
-    }
+    from_fn(|j| t[j] ^ low_product(x[j], y[j]))
 }
 
 // Karatsuba's rule on the used bits of three integer products, whose planes stand one bit apart.
@@ -105,10 +64,11 @@ fn joined_pairs(h: u64, l: u64, m: u64) -> u64
 pub fn unmixed(t: Mixtures) -> u64
     ensures { result ≡ Halves.unmixed t }
 {
+    let [p0, p1, p2, p3, p01, p23, p02, p13, all] = t;
     joined_pairs(
-        joined_planes(t.p3, t.p2, t.p23),
-        joined_planes(t.p1, t.p0, t.p01),
-        joined_planes(t.p13, t.p02, t.all),
+        joined_planes(p3, p2, p23),
+        joined_planes(p1, p0, p01),
+        joined_planes(p13, p02, all),
     )
 }
 
@@ -116,7 +76,7 @@ pub fn unmixed(t: Mixtures) -> u64
 pub fn half_product(x: u64, y: u64) -> u64
     ensures { result ≡ x % 2 ^ 32 ⊗ (y % 2 ^ 32) }
 {
-    unmixed(added(NONE, mixed(x), mixed(y)))
+    unmixed(added([0; 9], mixed(x), mixed(y)))
 }
 
 // The carry-less square of a plane of the 32 low bits of x: in the integer square, what is not a square of a bit comes twice.

@@ -1,19 +1,18 @@
 -- Sixteen blocks at a time: the loop that raises H to its powers, a batch as one sum of sixteen products, the loop over the batches,
--- and the loop that loads a batch's words. They rest on the laws of powers (`Powers`) and of Horner's rule (`Horner`).
+-- and the words of a batch. They rest on the laws of powers (`Powers`) and of Horner's rule (`Horner`).
 use mathlib.Core.Path.{◌≡◌, refl, sym, ap, ap₂, ◌∙◌}
 use mathlib.Core.List.{List}
 use mathlib.Core.Logic.{◌⊎◌, inl, inr}
 use Prim.Native.Nat.{ℕ, zero, suc, ◌+◌, ◌-◌, ◌*◌, ◌^◌, ◌≤◌, ◌<◌}
-use native.Mathlib.Nat.{le_refl, le_of_lt, not-suc-le-zero, eq-or-lt_of_le, zero-lt-suc}
+use native.Mathlib.Nat.{le_refl, le_of_lt, eq-or-lt_of_le, zero-lt-suc}
 use native.Mathlib.Omega.{arith}
 use lib.ListN.{length, get_or, set, take, drop, length-set, length-drop}
-use lib.Arith.{digits_lt}
 use lib.Bits.{bit_xor}
 use lib.Seq.{take_all, get_or-set_same, get_or-set_other}
 use Rattle.clmul.specs.Xor.{xor}
 use Rattle.clmul.specs.Clmul.{◌⊗◌, total}
-use Rattle.clmul.specs.Clmul as clmul
-use Rattle.clmul.proofs.Xor.{xor_lt, xor-split, xor_zero_l}
+use Rattle.clmul.proofs.Xor.{xor-split, xor_zero_l}
+use Rattle.clmul.proofs.Totals.{total_cong}
 use Rattle.clmul.proofs.Recurrence.{total-none, total_next, total-lt, ⊗-lt}
 use Rattle.field.specs.declared.blocks.Block.{Block}
 use Rattle.field.specs.Elements.{Vᵢ, times}
@@ -22,7 +21,7 @@ use Rattle.field.specs.Blocks.{Small, value, block, block_at, zero_block, ◌⊕
 use Rattle.field.specs.Powers.{power}
 use Rattle.field.specs.Sums.{blocks, terms}
 use Rattle.field.specs.Ghash.{Yᵢ}
-use Rattle.field.specs.Clauses.{Loaded}
+use Rattle.field.specs.Clauses.{PowersIn}
 use Rattle.field.proofs.Values.{small_one, value-lt, value-block, value-small, block-value}
 use Rattle.field.proofs.Ring.{value-⊕, value-•, small-•, ⊕-•, ⊕-assoc, zero-⊕}
 use Rattle.field.proofs.Powers.{power-one, power-suc, power-add}
@@ -162,33 +161,20 @@ batch_sum h y s at f g k first each powers =
 
 -- ---- the loop over the batches
 
--- H is known to the loop by what its table holds
-pub record Batched (P : Block → Type 0) (start : Block) (s : List ℕ) (q : ℕ) (y : Block) (i : ℕ) : Type 0 where
-  pub within : i ≤ q
-  pub y_is : (h : Block) → P h → y ≡ Yᵢ h start s (16 * i)
+module _ (h start : Block) (s : List ℕ) where
+  pub batched_start : start ≡ Yᵢ h start s (16 * 0)
+  unfolding Yᵢ
+  batched_start = refl
 
-pub batched_start : (P : Block → Type 0) (start : Block) (s : List ℕ) (q : ℕ) → Batched P start s q start 0
-unfolding Yᵢ
-batched_start P start s q = record { within = omega arith; y_is = λ h t. refl }
-
-module _ {P : Block → Type 0} {start : Block} {s : List ℕ} {q : ℕ} {y : Block} {i : ℕ} (b : Batched P start s q y i) where
-  pub batched_next : {z : Block} → i < q → ((h : Block) → P h → z ≡ Yᵢ h y (drop (256 * i) s) 16) → Batched P start s q z (i + 1)
-  batched_next {z} l e =
+  -- one batch more
+  pub batched_next : {y z : Block} (i : ℕ) → y ≡ Yᵢ h start s (16 * i) → z ≡ Yᵢ h y (drop (256 * i) s) 16 → z ≡ Yᵢ h start s (16 * (i + 1))
+  batched_next i b e =
       let place : 256 * i ≡ 16 * (16 * i) = omega arith in
       let more : 16 * i + 16 ≡ 16 * (i + 1) = omega arith in
-      record {
-        within = omega arith;
-        y_is = λ h t.
-            e h t
-            ∙ ap₂ (λ (x : Block) (j : ℕ). Yᵢ h x (drop j s) 16) (b.y_is h t) place
-            ∙ sym (Yᵢ-drop h start s (16 * i) 16)
-            ∙ ap (Yᵢ h start s) more;
-      }
-
-  pub batched_done : (h : Block) → P h → q ≤ i → y ≡ Yᵢ h start s (16 * q)
-  batched_done h t l =
-      let e : i ≡ q = omega (arith, b.within) in
-      b.y_is h t ∙ ap (λ (j : ℕ). Yᵢ h start s (16 * j)) e
+      e
+      ∙ ap₂ (λ (x : Block) (j : ℕ). Yᵢ h x (drop j s) 16) b place
+      ∙ sym (Yᵢ-drop h start s (16 * i) 16)
+      ∙ ap (Yᵢ h start s) more
 
 -- what is left of a list from a place on, as code takes it
 tail_is : (n : ℕ) (s : List ℕ) → take (length s - n) (drop n s) ≡ drop n s
@@ -207,29 +193,14 @@ batched_all h start s q {y} {z} l e f =
 
 -- ---- the words of a batch
 
-pub loaded_start : (f : ℕ → ℕ) (t : List ℕ) → length t ≡ 16 → Loaded f 0 t
-loaded_start f t e = record { size = e; each = λ j l. absurd (not-suc-le-zero l) }
-
-loaded-set : {f : ℕ → ℕ} {n : ℕ} {t : List ℕ} {v : ℕ} → Loaded f n t → n < 16 → v ≡ f n → (j : ℕ) → (j ≡ n) ⊎ (j < n) → get_or (set t n v) j 0 ≡ f j
-loaded-set {f} {n} {t} {v} w l e j (inl g) = rw g (get_or-set_same t n v 0 (omega (arith, w.size)) ∙ e)
-loaded-set {f} {n} {t} {v} w l e j (inr m) = get_or-set_other t n j v 0 (omega arith) ∙ w.each j m
-
-pub loaded_next : {f : ℕ → ℕ} {n : ℕ} {t : List ℕ} {v : ℕ} → Loaded f n t → n < 16 → v ≡ f n → Loaded f (n + 1) (set t n v)
-loaded_next {f} {n} {t} {v} w l e =
-    record { size = length-set t n v ∙ w.size; each = λ j m. loaded-set w l e j (eq-or-lt_of_le (omega arith)) }
-
-pub loaded_done : {f : ℕ → ℕ} {n : ℕ} {t : List ℕ} → Loaded f n t → 16 ≤ n → Loaded f 16 t
-loaded_done w l = record { size = w.size; each = λ j m. w.each j (omega arith) }
-
--- where the first of sixteen words is replaced by a word, all of them are words
-first-lt : (t : List ℕ) (v : ℕ) → length t ≡ 16 → v < 2 ^ 64 → ((n : ℕ) → n < 16 → get_or t n 0 < 2 ^ 64) → (n : ℕ) → n < 16
-    → get_or (set t 0 v) n 0 < 2 ^ 64
-first-lt t v e h each zero l = rw (get_or-set_same t 0 v 0 (omega arith)) h
-first-lt t v e h each (suc n) l = rw (get_or-set_other t 0 (suc n) v 0 (omega arith)) (each (suc n) l)
+-- sixteen words f 0 .. f 15
+pub record Words (f : ℕ → ℕ) (t : List ℕ) : Type 0 where
+  pub size : length t ≡ 16
+  pub each : (n : ℕ) → n < 16 → get_or t n 0 ≡ f n
 
 -- y is added to the first of the blocks that were loaded
-module _ (y : Block) (s : List ℕ) (at : ℕ) (hi lo : List ℕ) (k : Small y) (high : Loaded (λ n. number s (at + 16 * n) 8) 16 hi)
-    (low : Loaded (λ n. number s (at + 16 * n + 8) 8) 16 lo) where
+module _ (y : Block) (s : List ℕ) (at : ℕ) (hi lo : List ℕ) (k : Small y) (high : Words (λ n. number s (at + 16 * n) 8) hi)
+    (low : Words (λ n. number s (at + 16 * n + 8) 8) lo) where
   abbrev hi' : List ℕ
   hi' = set hi 0 (bit_xor y.hi (get_or hi 0 0))
 
@@ -246,29 +217,14 @@ module _ (y : Block) (s : List ℕ) (at : ℕ) (hi lo : List ℕ) (k : Small y) 
       ∙ sym (number-split s (at + 16 * 0) 8 8)
       ∙ ap (λ (i : ℕ). number s i 16) here
 
-  high_lt : (n : ℕ) → n < 16 → get_or hi n 0 < 2 ^ 64
-  high_lt n l = rw (high.each n l) (number_lt s (at + 16 * n) 8)
-
-  low_lt : (n : ℕ) → n < 16 → get_or lo n 0 < 2 ^ 64
-  low_lt n l = rw (low.each n l) (number_lt s (at + 16 * n + 8) 8)
-
-  -- sixteen words of 64 bits each
-  pub words-fit : (length hi' ≡ 16) × (length lo' ≡ 16) × ((n : ℕ) → n < 16 → (get_or hi' n 0 < 2 ^ 64) × (get_or lo' n 0 < 2 ^ 64))
-  unfolding xor
-  words-fit = (
-    length-set hi 0 _ ∙ high.size,
-    length-set lo 0 _ ∙ low.size,
-    λ n l. (
-      first-lt hi _ high.size (xor_lt 64 y.hi (get_or hi 0 0) k.hi (high_lt 0 (omega arith))) high_lt n l,
-      first-lt lo _ low.size (xor_lt 64 y.lo (get_or lo 0 0) k.lo (low_lt 0 (omega arith))) low_lt n l,
-    ),
-  )
+  low_lt : get_or lo 0 0 < 2 ^ 64
+  low_lt = rw (low.each 0 (omega arith)) (number_lt s (at + 16 * 0 + 8) 8)
 
   joined_first : joined 0 ≡ xor (value y) (number s at 16)
   unfolding xor
   joined_first =
       ap₂ (λ (x z : ℕ). x * 2 ^ 64 + z) (get_or-set_same hi 0 _ 0 (omega (arith, high.size))) (get_or-set_same lo 0 _ 0 (omega (arith, low.size)))
-      ∙ sym (xor-split 64 y.hi (get_or hi 0 0) y.lo (get_or lo 0 0) k.lo (low_lt 0 (omega arith)))
+      ∙ sym (xor-split 64 y.hi (get_or hi 0 0) y.lo (get_or lo 0 0) k.lo low_lt)
       ∙ ap₂ xor (sym (value-small y k)) first-is
 
   joined-rest : (n : ℕ) → 0 < n → n < 16 → joined n ≡ number s (at + 16 * n) 16
@@ -277,21 +233,14 @@ module _ (y : Block) (s : List ℕ) (at : ℕ) (hi lo : List ℕ) (k : Small y) 
       (get_or-set_other hi 0 n _ 0 (omega arith) ∙ high.each n v) (get_or-set_other lo 0 n _ 0 (omega arith) ∙ low.each n v)
       ∙ sym (number-split s (at + 16 * n) 8 8)
 
-  -- the blocks have 128 bits each
-  pub joined_small : clmul.Small joined
-  joined_small = record { each = λ n l. digits_lt (words-fit.2 n l).0 (words-fit.2 n l).1 }
-
   -- the batch of the words: their products with the powers of H, added and then reduced
-  pub batch_words : (h : Block) {w : ℕ} {r : Block} → w ≡ total (λ n. joined n ⊗ value (power h (16 - n))) 16
-      → (w < 2 ^ 255 → r ≡ block (Vᵢ w 127)) → r ≡ Yᵢ h y (drop at s) 16
-  batch_words h {w} e f =
+  pub batch_words : (h : Block) {w : ℕ} {r : Block} (x t : List ℕ) → ((n : ℕ) → n < 16 → get_or x n 0 ≡ joined n) → PowersIn h t
+      → w ≡ total (λ n. get_or x n 0 ⊗ get_or t n 0) 16 → (w < 2 ^ 255 → r ≡ block (Vᵢ w 127)) → r ≡ Yᵢ h y (drop at s) 16
+  batch_words h {w} x t loaded table e f =
       let powers : ℕ → ℕ = λ n. value (power h (16 - n)) in
-      let bound : w < 2 ^ 255 = rw e (total-lt (λ n. joined n ⊗ powers n) 16 255 (λ n l. ⊗-lt (joined n) (powers n) (value-lt (power h (16 - n))))) in
-      f bound ∙ ap block (ap (λ (v : ℕ). Vᵢ v 127) e ∙ V-total joined powers 16) ∙ batch_sum h y s at joined powers k joined_first joined-rest (λ n l. refl)
-
--- the powers as numbers of 128 bits
-pub powers_small : (h : Block) → clmul.Small (λ n. value (power h (16 - n)))
-powers_small h = record { each = λ n l. value-lt (power h (16 - n)) }
+      let is : w ≡ total (λ n. joined n ⊗ powers n) 16 = e ∙ total_cong 16 _ _ (λ n l. ap₂ ◌⊗◌ (loaded n l) (table n l)) in
+      let bound : w < 2 ^ 255 = rw is (total-lt (λ n. joined n ⊗ powers n) 16 255 (λ n l. ⊗-lt (joined n) (powers n) (value-lt (power h (16 - n))))) in
+      f bound ∙ ap block (ap (λ (v : ℕ). Vᵢ v 127) is ∙ V-total joined powers 16) ∙ batch_sum h y s at joined powers k joined_first joined-rest (λ n l. refl)
 
 small_power : (h : Block) (k : ℕ) → Small (power h k)
 unfolding power
@@ -300,7 +249,7 @@ small_power h (suc k) = small-• (power h k) h
 
 -- the powers whose words stand in two arrays
 pub power-words : (h : Block) (p : List Block) (hi lo : List ℕ) → ((n : ℕ) → n < 16 → get_or p n zero_block ≡ power h (16 - n))
-    → Loaded (λ j. (get_or p j zero_block).hi) 16 hi → Loaded (λ j. (get_or p j zero_block).lo) 16 lo → (n : ℕ) → n < 16
+    → Words (λ j. (get_or p j zero_block).hi) hi → Words (λ j. (get_or p j zero_block).lo) lo → (n : ℕ) → n < 16
     → get_or hi n 0 * 2 ^ 64 + get_or lo n 0 ≡ value (power h (16 - n))
 power-words h p hi lo powers high low n l =
     ap₂ (λ (x z : ℕ). x * 2 ^ 64 + z) (high.each n l) (low.each n l)

@@ -11,8 +11,7 @@ use native.Mathlib.Omega.{arith}
 use lib.Count.{ones}
 use lib.Dec.{eqb}
 use borrow.Author.Tests.{eq-eqb, ne_eqb}
-use lib.ListN.{length, take, replicate, length-replicate, replicate-append-replicate}
-use lib.Seq.{take_at}
+use lib.ListN.{length, replicate, length-replicate, replicate-append-replicate}
 use Rattle.field.specs.declared.blocks.Block.{Block}
 use Rattle.field.specs.declared.multiplying.Counted.{Counted}
 use Rattle.field.specs.Blocks.{◌⊕◌, ◌•◌, zero_block, one, Small, block_at}
@@ -55,14 +54,6 @@ last_block fill n p =
     let r = n - 16 * w in
     let all : 16 * w + r ≡ n = omega arith in
     sym (behind_whole fill w r) ∙ ap (λ (m : ℕ). block_at (replicate m fill) w) all
-
--- a block of fill bytes as code makes it: the first r of sixteen
-pub first_bytes : (fill r : ℕ) → r ≤ 16 → take r (replicate 16 fill) ≡ replicate r fill
-first_bytes fill r l =
-    let rest : 16 ≡ r + (16 - r) = omega arith in
-    ap (λ (m : ℕ). take r (replicate m fill)) rest
-    ∙ ap (take r) (sym (replicate-append-replicate r (16 - r) fill))
-    ∙ take_at (replicate r fill) (replicate (16 - r) fill) r (length-replicate r fill)
 
 -- ---- the sum
 

@@ -50,12 +50,6 @@ module _ {h start : Block} {lead : ℕ} {a b : List ℕ} {q : ℕ} {count : Coun
         n_is = omega (arith, ap (λ (r : Counted). r.count.raised) ep, f.n_is);
       }
 
-  pub folding_done : q ≤ i → counted y n.raised ≡ counted (Yᵢ h start (replicate lead 0 ++ xor_bytes a b) q) (count.raised + q)
-  folding_done l =
-      let e : i ≡ q = omega arith in
-      ap₂ counted f.y_is f.n_is
-      ∙ ap (λ (j : ℕ). counted (Yᵢ h start (replicate lead 0 ++ xor_bytes a b) j) (count.raised + j)) e
-
 -- over all the blocks of one list: nothing in front, and nothing added
 pub folded : (h start : Block) (s : List ℕ) (q : ℕ) {y : Block} → q ≡ blocks (length s) → y ≡ Yᵢ h start (xor_bytes s []) q
     → y ≡ Yᵢ h start s (blocks (length s))

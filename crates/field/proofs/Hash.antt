@@ -7,12 +7,10 @@ use native.Mathlib.Omega.{arith}
 use lib.ListN.{length, length-append, length-replicate}
 use lib.Arith.{digits_lt}
 use Rattle.field.specs.declared.blocks.Block.{Block}
-use Rattle.field.specs.declared.multiplying.Counted.{Counted}
 use Rattle.field.specs.Bytes.{bytes}
 use Rattle.field.specs.Blocks.{◌⊕◌, ◌•◌, zero_block}
 use Rattle.field.specs.Sums.{blocks, sum}
 use Rattle.field.specs.Ghash.{Yᵢ, padded, ghash_input, length_block, ghash}
-use Rattle.field.specs.Clauses.{counted}
 use Rattle.field.specs.Answers.{max_bytes}
 use Rattle.field.proofs.Ring.{⊕-self, zero-•}
 use Rattle.field.proofs.Bytes.{length-bytes, bytes-append}
@@ -65,11 +63,6 @@ ghash-Yᵢ h a c la lc =
     ∙ ap (Yᵢ h zero_block (z ++ bytes 16 v)) count
     ∙ Yᵢ-append h zero_block z (bytes 16 v) (m + n) 1 whole
     ∙ ap₂ (λ (x y : Block). (x ⊕ y) • h) (Yᵢ-both h a c) (block_at-bytes v small)
-
--- so code ends it: x is the block of the lengths, t its sum with y, and r the last product
-pub closed_run : (h y : Block) (m n : ℕ) {x t : Block} {k : ℕ} {r : Counted} → x ≡ length_block m n → t ≡ y ⊕ x → r ≡ counted (t • h) k
-    → r.value ≡ (y ⊕ length_block m n) • h
-closed_run h y m n ex et er = ap (λ (r : Counted). r.value) er ∙ ap (λ (b : Block). b • h) (et ∙ ap (λ (b : Block). y ⊕ b) ex)
 
 -- so code gets it: y after A's blocks, z after C's, and r the last product
 pub ghash-run : (h : Block) (a c : List ℕ) {y z r : Block} → length a ≤ max_bytes → length c ≤ max_bytes

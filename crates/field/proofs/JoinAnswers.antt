@@ -3,24 +3,24 @@
 use mathlib.Core.Path.{◌≡◌, refl, sym, ap, ap₂, ◌∙◌}
 use mathlib.Core.Bool.{Bool, true, false, cond}
 use mathlib.Core.List.{List, [], ◌∷◌}
-use Prim.Native.Nat.{ℕ, ◌*◌, ◌/◌, ◌%◌, ◌≤◌}
+use Prim.Native.Nat.{ℕ, ◌*◌, ◌/◌, ◌%◌, ◌≤◌, ◌<◌}
 use native.Mathlib.Omega.{arith}
 use lib.Dec.{eqb, ltb}
 use lib.ListN.{length}
-use borrow.Author.Tests.{ltb-false, le-ltb, eq-eqb, eqb-true}
+use borrow.Author.Tests.{ltb-false, lt-ltb, le-ltb, eq-eqb, eqb-true}
+use Rattle.std.specs.Prelude.{Option, Some, None, MatchOption}
+use Rattle.std.specs.Option.{ok_or}
 use Rattle.refusals.specs.Refusals.{first}
-use Rattle.refusals.proofs.Laws.{first_none, first_later, first_passed, agree, agreed}
+use Rattle.refusals.proofs.Laws.{first_none, first_here, first_later, first_passed, agree, agreed}
 use Rattle.field.specs.declared.blocks.Block.{Block}
 use Rattle.field.specs.declared.Cause.{Cause}
-use Rattle.field.specs.declared.Answer.{Answer}
-use Rattle.field.specs.declared.Answer.TheVariants.{Done, Refused}
+use Rattle.field.specs.declared.Cause.TheVariants.{TooLong}
 use Rattle.field.specs.Blocks.{zero_block, block_at}
 use Rattle.field.specs.Answers.{max_bytes}
-use Rattle.field.specs.Clauses.{answer_refusal, capped}
+use Rattle.field.specs.Clauses.{cause_number, answer_refusal}
 use Rattle.field.specs.Parts.{parts_of, joined_sum, total_of, unaligned, join_refusal, JoinAnswer, joined_to, joined}
 use Rattle.field.proofs.Values.{words, zero-words}
 use Rattle.field.proofs.Refusals.{cause_not-0}
-use Rattle.field.proofs.PartLengths.{capped-within}
 
 -- ---- the sums' byte length, as code tests it: it is 16 times the number of lengths where nothing is left over and its sixteenth is that number
 
@@ -46,6 +46,15 @@ module _ (h sums lengths : List ℕ) where
   past-sizes e f g i =
       let fit : length sums ≡ 16 * length lengths = omega (arith, f, g) in
       first_later _ _ _ (agree e) (first_later _ _ _ (agree fit) i)
+
+  -- and the last of them by the total r, as code finds it
+  pub by_total : (r : Option ℕ) → length h ≡ 16 → length sums % 16 ≡ 0 → length sums / 16 ≡ length lengths → unaligned lengths ≡ false
+      → MatchOption r (max_bytes < total_of lengths) (λ n. (n ≡ total_of lengths) × (n ≤ max_bytes))
+      → answer_refusal (ok_or r TooLong) ≡ join_refusal h sums lengths
+  by_total (Some n) e f g a t =
+      let limit : total_of lengths ≤ max_bytes = omega (arith, t.0, t.1) in
+      past-sizes e f g (first_later _ _ _ a (first_later _ _ _ (le-ltb _ _ limit) first_none))
+  by_total None e f g a t = past-sizes e f g (first_later _ _ _ a (first_here _ _ _ (lt-ltb _ _ t)))
 
   -- nothing is refused exactly where all fits
   pub join-fits : join_refusal h sums lengths ≡ 0 → Fits h sums lengths
@@ -93,24 +102,17 @@ module _ (h sums lengths : List ℕ) where
   unfolding joined by_refusal
   join-refusal = refusal_by (eqb (join_refusal h sums lengths) 0) refl
 
-  -- ---- code's answer r
+  -- ---- code's answer
 
-  module _ {r : Answer} (e : answer_refusal r ≡ join_refusal h sums lengths) where
-    pub join_refused : {cause : Cause} → r ≡ Refused cause
-        → ◌≡◌ {A = JoinAnswer} (record { refusal = answer_refusal r; s = words 0 0; n = 0 }) (joined h sums lengths)
-    unfolding joined by_refusal
-    join_refused {cause} f =
-        ap₂ (λ (m : ℕ) (b : Block). record { refusal = m; s = b; n = 0 }) e zero-words
-        ∙ ap by_refusal (sym (ap (λ (m : ℕ). eqb m 0) (sym e ∙ ap answer_refusal f) ∙ cause_not-0 cause))
+  pub join_refused : (cause : Cause) → cause_number cause ≡ join_refusal h sums lengths
+      → ◌≡◌ {A = JoinAnswer} (record { refusal = cause_number cause; s = words 0 0; n = 0 }) (joined h sums lengths)
+  unfolding joined by_refusal
+  join_refused cause e =
+      ap₂ (λ (m : ℕ) (b : Block). record { refusal = m; s = b; n = 0 }) e zero-words
+      ∙ ap by_refusal (sym (ap (λ (m : ℕ). eqb m 0) (sym e) ∙ cause_not-0 cause))
 
-    pub join-none : r ≡ Done → Fits h sums lengths
-    join-none f = join-fits (sym e ∙ ap answer_refusal f)
-
-    -- k is the block that was read of h, s the sum and n the total
-    pub join_done : {k s : Block} {n : ℕ} → r ≡ Done → k ≡ block_at h 0 → s ≡ joined_sum k (parts_of sums 0 lengths) → n ≡ capped (total_of lengths)
-        → ◌≡◌ {A = JoinAnswer} (record { refusal = answer_refusal r; s = s; n = n }) (joined h sums lengths)
-    join_done {k} {s} {n} f ek es en =
-        let fits = join-none f in
-        ap (λ (m : ℕ). record { refusal = m; s = s; n = n }) (ap answer_refusal f)
-        ∙ ap₂ joined_to (es ∙ ap (λ (b : Block). joined_sum b (parts_of sums 0 lengths)) ek) (en ∙ sym (capped-within _ fits.limit))
-        ∙ sym (join-fitting fits)
+  -- k is the block that was read of h, s the sum and n the total
+  pub join_done : {k s : Block} {n : ℕ} → 0 ≡ join_refusal h sums lengths → k ≡ block_at h 0 → s ≡ joined_sum k (parts_of sums 0 lengths)
+      → n ≡ total_of lengths → joined_to s n ≡ joined h sums lengths
+  join_done e ek es en =
+      ap₂ joined_to (es ∙ ap (λ (b : Block). joined_sum b (parts_of sums 0 lengths)) ek) en ∙ sym (accepted (sym e))

@@ -1,6 +1,6 @@
--- Words read from bytes and written to bytes, as code does it: lead zero bytes in front of a list, the invariants of the loops
--- that read and write a word, and a block read and written as two words. They rest on the laws of numbers as bytes (`Bytes`), of
--- stores (`Stores`) and of blocks (`Values`, `BlockAt`).
+-- Words read from bytes and written to bytes, as code does it: lead zero bytes in front of a list, a word as the library reads it, the
+-- invariants of the loops that read and write a word, and a block read and written as two words. They rest on the laws of numbers as
+-- bytes (`Bytes`), of stores (`Stores`) and of blocks (`Values`, `BlockAt`).
 use mathlib.Core.Path.{◌≡◌, refl, sym, ap, ap₂, ◌∙◌}
 use mathlib.Core.List.{List, ◌++◌}
 use Prim.Native.Nat.{ℕ, suc, ◌+◌, ◌-◌, ◌*◌, ◌/◌, ◌%◌, ◌^◌, ◌≤◌, ◌<◌}
@@ -9,37 +9,51 @@ use native.Mathlib.Numerals.{add-one}
 use native.Mathlib.Omega.{arith}
 use mir.Syntax.{w8, w64}
 use mir.Val.{Fits}
-use lib.ListN.{length, get_or, set, replicate, length-append, length-set, length-replicate, get_or-replicate, get_or-append, get_or-eq_default}
-use lib.Seq.{get_or-append-add, sets}
+use lib.ListN.{length, get_or, set, take, drop, replicate, length-append, length-set, length-replicate}
+use lib.Seq.{get_or-take, get_or-drop, sets}
+use Rattle.std.specs.Int.{from_be_bytes}
 use Rattle.field.specs.declared.blocks.Block.{Block}
 use Rattle.field.specs.Bytes.{number, bytes}
 use Rattle.field.specs.Blocks.{Small, value, block, block_at, bytes_of}
 use Rattle.field.proofs.Values.{words, block_words, value-small, zero-words}
-use Rattle.field.proofs.Bytes.{number_lt, number-append_right, number-split, length-bytes, bytes-append}
+use Rattle.field.proofs.Bytes.{number_lt, number-from, number-take, number-append_right, number-split, length-bytes, bytes-append}
 use Rattle.field.proofs.Stores.{sets-snoc, sets-append, sets_whole}
 use Rattle.field.proofs.BlockAt.{length-block_bytes, block_at-past}
 
 -- ---- lead zero bytes in front of a list
-
--- the zero bytes
-pub in_lead : (lead : ℕ) (s : List ℕ) (v : ℕ) → v < lead → 0 ≡ get_or (replicate lead 0 ++ s) v 0
-in_lead lead s v h = sym (get_or-append (replicate lead 0) s 0 v (rw length-replicate h) ∙ get_or-replicate lead v 0 0 h)
-
--- the list behind them
-pub past-lead : (lead : ℕ) (s : List ℕ) (v : ℕ) → lead ≤ v → get_or s (v - lead) 0 ≡ get_or (replicate lead 0 ++ s) v 0
-past-lead lead s v h =
-    let e : length {A = ℕ} (replicate lead 0) + (v - lead) ≡ v = rw length-replicate (omega arith) in
-    sym (get_or-append-add (replicate lead 0) s (v - lead) 0) ∙ ap (λ (i : ℕ). get_or (replicate lead 0 ++ s) i 0) e
-
--- and what is past its end
-pub past_end : (lead : ℕ) (s : List ℕ) (v : ℕ) → lead ≤ v → length s ≤ v - lead → 0 ≡ get_or (replicate lead 0 ++ s) v 0
-past_end lead s v h l = sym (get_or-eq_default s 0 l) ∙ past-lead lead s v h
 
 -- a number that lies behind them
 number-lead : (lead : ℕ) (s : List ℕ) (at k : ℕ) → lead ≤ at → number s (at - lead) k ≡ number (replicate lead 0 ++ s) at k
 number-lead lead s at k h =
     let e : length {A = ℕ} (replicate lead 0) + (at - lead) ≡ at = rw length-replicate (omega arith) in
     sym (number-append_right (replicate lead 0) s (at - lead) k) ∙ ap (λ (i : ℕ). number (replicate lead 0 ++ s) i k) e
+
+-- ---- a word read as the library reads it
+
+-- t is the eight bytes from a place on, and n the library's number of them
+pub word-number : (s : List ℕ) (at : ℕ) {t : List ℕ} {n : ℕ} → ((i : ℕ) → Fits w8 (get_or s i 0)) → t ≡ take (at + 8 - at) (drop at s) → n ≡ from_be_bytes w64 t
+    → n ≡ number s at 8
+unfolding number
+word-number s at {t} {n} small e f =
+    let eight : 8 ≤ at + 8 - at = omega arith in
+    let byte : (j : ℕ) → j < 8 → get_or t j 0 < 256 =
+    λ j l.
+    let is = ap (λ (u : List ℕ). get_or u j 0) e ∙ get_or-take _ (drop at s) j 0 (omega arith) ∙ get_or-drop at s j 0 in
+    omega (arith, is, small (at + j)) in
+    let is : n ≡ number t 0 8 =
+    omega (
+      arith,
+      f,
+      byte 0 (omega arith),
+      byte 1 (omega arith),
+      byte 2 (omega arith),
+      byte 3 (omega arith),
+      byte 4 (omega arith),
+      byte 5 (omega arith),
+      byte 6 (omega arith),
+      byte 7 (omega arith),
+    ) in
+    is ∙ ap (λ (u : List ℕ). number u 0 8) e ∙ number-take (drop at s) _ 0 8 eight ∙ number-from s at 8
 
 -- ---- a word read byte by byte
 
@@ -57,10 +71,6 @@ pub reading-lt : {s : List ℕ} {at size n k : ℕ} → Reading s at size n k �
 reading-lt {s} {at} {size} {n} {k} r h l =
     rw r.is (lt_of_lt_of_le (number_lt s at k) (pow-le-pow_right (zero-lt-suc 255) {i = k} {j = 7} (omega arith)))
 
--- so a word holds it with the byte
-pub reading-fits : {s : List ℕ} {at size n k b : ℕ} → Reading s at size n k → size ≤ 8 → k < size → Fits w8 b → Fits w64 (n * 256 + b)
-reading-fits r h l small = omega (arith, reading-lt r h l, small)
-
 pub reading_next : {s : List ℕ} {at size n k : ℕ} (b : ℕ) → Reading s at size n k → k < size → b < 256 → b ≡ get_or s (at + k) 0
     → Reading s at size (n * 256 + b) (k + 1)
 unfolding number
@@ -70,11 +80,6 @@ reading_next {s} {at} {size} {n} {k} b r l small e =
       is = rw add-one (ap₂ (λ (x y : ℕ). x * 256 + y) r.is (sym (mod-eq_of_lt small) ∙ ap (λ (x : ℕ). x % 256) e));
     }
 
-pub reading_done : {s : List ℕ} {at size n k : ℕ} → Reading s at size n k → size ≤ k → n ≡ number s at size
-reading_done {s} {at} {size} {n} {k} r h =
-    let e : k ≡ size = omega arith in
-    r.is ∙ ap (number s at) e
-
 -- ---- a word written byte by byte, the last byte first
 
 -- out is to get the k bytes of rest yet, and then holds what it is to hold
@@ -82,9 +87,6 @@ pub record Writing (out₀ : List ℕ) (at size v : ℕ) (out : List ℕ) (rest 
   pub within : k ≤ size
   pub room : length out ≡ length out₀
   pub is : sets out at (bytes k rest) ≡ sets out₀ at (bytes size v)
-
-pub writing_start : (out : List ℕ) (at size v : ℕ) → Writing out at size v out v size
-writing_start out at size v = record { within = omega arith; room = refl; is = refl }
 
 write_byte : (out : List ℕ) (at k rest : ℕ)
     → sets (set out (at + k) (rest % 256)) at (bytes k (rest / 256)) ≡ sets out at (bytes (suc k) rest)

@@ -1,48 +1,21 @@
--- The lengths of parts: their total, as a word holds it and as code finds it (`Totalling`); whether all but the last are whole blocks, and how code finds
--- that (`Aligning`); both of parts one behind the other; and that the blocks of the total are then those of all the parts.
+-- The lengths of parts: their total, as code finds it (`Totalling`); whether all but the last are whole blocks, as code finds it (`unaligned-front`); both of
+-- parts one behind the other; and that the blocks of the total are then those of all the parts.
 use mathlib.Core.Path.{◌≡◌, refl, sym, ap, ◌∙◌}
-use mathlib.Core.Bool.{Bool, true, false, cond, not, ◌||◌, true≢false}
+use mathlib.Core.Bool.{Bool, true, false, not, ◌||◌, true≢false}
 use mathlib.Core.List.{List, [], ◌∷◌, ◌++◌, append-nil}
 use Prim.Native.Nat.{ℕ, suc, ◌+◌, ◌-◌, ◌%◌, ◌≤◌, ◌<◌}
 use native.Mathlib.Nat.{add-zero, zero-add}
 use native.Mathlib.Numerals.{add-one}
 use native.Mathlib.Omega.{arith}
-use lib.Dec.{eqb, ltb}
-use lib.ListN.{length, get_or, drop, length-drop, drop_of_length-le}
+use lib.Dec.{eqb}
+use lib.ListN.{length, get_or, take, drop, drop_of_length-le}
 use lib.Seq.{drop-cons}
-use borrow.Author.Tests.{ltb-false, lt-ltb, le-ltb, eq-eqb, ne_eqb}
+use borrow.Author.Tests.{eq-eqb}
+use Rattle.std.specs.List.{list_any}
 use Rattle.refusals.proofs.Laws.{agreed}
 use Rattle.field.specs.Sums.{blocks}
 use Rattle.field.specs.Answers.{max_bytes}
 use Rattle.field.specs.Parts.{parts_of, blocks_in, total_of, unaligned}
-use Rattle.field.specs.Clauses.{capped}
-
--- ---- a total that a word holds
-
-capped-over : (n : ℕ) → max_bytes < n → max_bytes + 1 ≡ capped n
-unfolding capped
-capped-over n l = rw (lt-ltb _ _ l)
-
-pub capped-within : (n : ℕ) → n ≤ max_bytes → n ≡ capped n
-unfolding capped
-capped-within n l = rw (le-ltb _ _ l)
-
--- what it tells
-told_over : (n : ℕ) (t : Bool) → ltb max_bytes n ≡ t → max_bytes < cond t (max_bytes + 1) n → t ≡ true
-told_over n true e l = refl
-told_over n false e l = absurd (omega (arith, ltb-false max_bytes n e))
-
-told-within : (n : ℕ) (t : Bool) → cond t (max_bytes + 1) n ≤ max_bytes → t ≡ false
-told-within n true l = absurd (omega arith)
-told-within n false l = refl
-
-pub over-capped : {r : ℕ} (n : ℕ) → r ≡ capped n → max_bytes < r → ltb max_bytes n ≡ true
-unfolding capped
-over-capped n e l = told_over n (ltb max_bytes n) refl (rw (← e) l)
-
-pub within-capped : {r : ℕ} (n : ℕ) → r ≡ capped n → r ≤ max_bytes → ltb max_bytes n ≡ false
-unfolding capped
-within-capped n e l = told-within n (ltb max_bytes n) (rw (← e) l)
 
 -- ---- the loop that adds up
 
@@ -56,72 +29,37 @@ pub record Totalling (lengths : List ℕ) (sum i : ℕ) : Type 0 where
   pub room : sum ≤ max_bytes
   pub is : sum + total_of (drop i lengths) ≡ total_of lengths
 
-pub totalling_start : (lengths : List ℕ) → Totalling lengths 0 0
-totalling_start lengths = record { within = omega arith; room = omega arith; is = zero-add (total_of lengths) }
-
 module _ {lengths : List ℕ} {sum i : ℕ} (t : Totalling lengths sum i) where
   pub totalling_next : i < length lengths → get_or lengths i 0 ≤ max_bytes - sum → Totalling lengths (sum + get_or lengths i 0) (i + 1)
   totalling_next l r =
       rw add-one (record { within = l; room = omega (arith, t.room); is = omega (arith, t.is, total-drop lengths i l) })
 
-  pub totalling_over : i < length lengths → max_bytes - sum < get_or lengths i 0 → max_bytes + 1 ≡ capped (total_of lengths)
-  totalling_over l r = capped-over (total_of lengths) (omega (arith, t.room, t.is, total-drop lengths i l))
+  pub totalling_over : i < length lengths → max_bytes - sum < get_or lengths i 0 → max_bytes < total_of lengths
+  totalling_over l r = omega (arith, t.room, t.is, total-drop lengths i l)
 
-  pub totalling_done : length lengths ≤ i → sum ≡ capped (total_of lengths)
+  pub totalling_done : length lengths ≤ i → (sum ≡ total_of lengths) × (sum ≤ max_bytes)
   unfolding total_of
   totalling_done l =
-      let e : sum ≡ total_of lengths = sym (add-zero sum) ∙ ap (λ (r : List ℕ). sum + total_of r) (sym (drop_of_length-le lengths l)) ∙ t.is in
-      e ∙ capped-within (total_of lengths) (rw (← e) t.room)
+      (sym (add-zero sum) ∙ ap (λ (r : List ℕ). sum + total_of r) (sym (drop_of_length-le lengths l)) ∙ t.is, t.room)
 
--- ---- the loop that looks for a length that isn't whole blocks
+-- ---- the lengths but the last
 
--- a length with another behind it
-unaligned-drop : (lengths : List ℕ) (i : ℕ) → suc i < length lengths
-    → unaligned (drop i lengths) ≡ not (eqb (get_or lengths i 0 % 16) 0) || unaligned (drop (suc i) lengths)
+-- as code looks at them
+pub unaligned-front : (s : List ℕ) → list_any (λ n. not (eqb (n % 16) 0)) (take (length s - 1) s) ≡ unaligned s
 unfolding unaligned
-unaligned-drop lengths i l =
-    let next = drop-cons lengths (suc i) 0 l in
-    ap unaligned (drop-cons lengths i 0 (omega arith) ∙ ap (◌∷◌ (get_or lengths i 0)) next)
-    ∙ ap (λ (r : List ℕ). not (eqb (get_or lengths i 0 % 16) 0) || unaligned r) (sym next)
+unaligned-front [] = refl
+unaligned-front (n ∷ []) = refl
+unaligned-front (n ∷ k ∷ l) =
+    let more : length (n ∷ k ∷ l) - 1 ≡ suc (length (k ∷ l) - 1) = omega arith in
+    ap (λ (i : ℕ). list_any (λ m. not (eqb (m % 16) 0)) (take i (n ∷ k ∷ l))) more
+    ∙ ap (◌||◌ (not (eqb (n % 16) 0))) (unaligned-front (k ∷ l))
 
-unaligned-one : (lengths : List ℕ) → length lengths ≤ 1 → unaligned lengths ≡ false
+-- of at most one length there are none
+pub unaligned-one : (lengths : List ℕ) → length lengths ≤ 1 → unaligned lengths ≡ false
 unfolding unaligned
 unaligned-one [] l = refl
 unaligned-one (n ∷ []) l = refl
 unaligned-one (n ∷ next ∷ after) l = absurd (omega arith)
-
--- all before place `next` but the one just before it are multiples of 16
-pub record Aligning (lengths : List ℕ) (next : ℕ) : Type 0 where
-  pub some : 0 < next
-  pub is : unaligned (drop (next - 1) lengths) ≡ unaligned lengths
-
-pub aligning_start : (lengths : List ℕ) → Aligning lengths 1
-aligning_start lengths = record { some = omega arith; is = refl }
-
-module _ {lengths : List ℕ} {next : ℕ} (a : Aligning lengths next) where
-  at_next : next < length lengths → not (eqb (get_or lengths (next - 1) 0 % 16) 0) || unaligned (drop next lengths) ≡ unaligned lengths
-  at_next l =
-      let e : suc (next - 1) ≡ next = omega (arith, a.some) in
-      ap (λ (i : ℕ). not (eqb (get_or lengths (next - 1) 0 % 16) 0) || unaligned (drop i lengths)) (sym e)
-      ∙ sym (unaligned-drop lengths (next - 1) (omega (arith, e)))
-      ∙ a.is
-
-  pub aligning_next : next < length lengths → get_or lengths (next - 1) 0 % 16 ≡ 0 → Aligning lengths (next + 1)
-  aligning_next l z =
-      let e : next + 1 - 1 ≡ next = omega arith in
-      record {
-        some = omega arith;
-        is =
-            ap (λ (i : ℕ). unaligned (drop i lengths)) e
-            ∙ ap (λ (t : Bool). not t || unaligned (drop next lengths)) (sym (eq-eqb _ _ z))
-            ∙ at_next l;
-      }
-
-  pub aligning_found : next < length lengths → (get_or lengths (next - 1) 0 % 16 ≡ 0 → ⊥) → true ≡ unaligned lengths
-  aligning_found l z = ap (λ (t : Bool). not t || unaligned (drop next lengths)) (sym (ne_eqb _ _ z)) ∙ at_next l
-
-  pub aligning_done : length lengths ≤ next → false ≡ unaligned lengths
-  aligning_done l = sym (unaligned-one (drop (next - 1) lengths) (rw length-drop (omega arith))) ∙ a.is
 
 -- ---- lengths one behind the other
 

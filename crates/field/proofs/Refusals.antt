@@ -10,13 +10,12 @@ use lib.Dec.{eqb}
 use lib.ListN.{length}
 use lib.Seq.{sets}
 use borrow.Author.Tests.{ltb-false}
+use Rattle.std.specs.Prelude.{Result, Ok, Err}
 use Rattle.refusals.proofs.Laws.{first_passed, agreed}
 use Rattle.field.specs.declared.blocks.Block.{Block}
 use Rattle.field.specs.declared.multiplying.Counted.{Counted}
 use Rattle.field.specs.declared.Cause.{Cause}
 use Rattle.field.specs.declared.Cause.TheVariants.{InputLength, TooLong, PartLength, OutputLength, SumsLength}
-use Rattle.field.specs.declared.Answer.{Answer}
-use Rattle.field.specs.declared.Answer.TheVariants.{Done, Refused}
 use Rattle.field.specs.Blocks.{◌•◌, block_at, bytes_of}
 use Rattle.field.specs.Ghash.{ghash}
 use Rattle.field.specs.Clauses.{cause_number, answer_refusal, counted}
@@ -32,7 +31,7 @@ cause_not-0 OutputLength = refl
 cause_not-0 SumsLength = refl
 
 -- a call whose refusal is n leaves what stood in its output where it is refused
-kept : {r : Answer} {cause : Cause} (n : ℕ) (work out : List ℕ) → answer_refusal r ≡ n → r ≡ Refused cause → out ≡ cond (eqb n 0) work out
+kept : {r : Result Unit Cause} {cause : Cause} (n : ℕ) (work out : List ℕ) → answer_refusal r ≡ n → r ≡ Err cause → out ≡ cond (eqb n 0) work out
 kept {r} {cause} n work out e f =
     ap (λ (b : Bool). cond b work out) (sym (ap (λ (m : ℕ). eqb m 0) (sym e ∙ ap answer_refusal f) ∙ cause_not-0 cause))
 
@@ -44,12 +43,12 @@ written {b} {w} n out z l e f =
 
 -- ---- the block call, whose answer is r
 
-module _ (a b out : List ℕ) {r : Answer} (e : answer_refusal r ≡ multiply_refusal a b out) where
-  pub multiply_refused : {cause : Cause} → r ≡ Refused cause → out ≡ multiply_output a b out
+module _ (a b out : List ℕ) {r : Result Unit Cause} (e : answer_refusal r ≡ multiply_refusal a b out) where
+  pub multiply_refused : {cause : Cause} → r ≡ Err cause → out ≡ multiply_output a b out
   unfolding multiply_output
   multiply_refused f = kept _ _ out e f
 
-  pub multiply_fits : r ≡ Done → length out ≡ 16
+  pub multiply_fits : r ≡ Ok tt → length out ≡ 16
   unfolding multiply_refusal
   multiply_fits f =
       let after-a = first_passed _ _ _ (sym e ∙ ap answer_refusal f) (omega arith) in
@@ -57,7 +56,7 @@ module _ (a b out : List ℕ) {r : Answer} (e : answer_refusal r ≡ multiply_re
       agreed _ _ (first_passed _ _ _ after-b.1 (omega arith)).0
 
   -- p and q are the blocks that were read, and w their counted product
-  pub multiply_done : {p q : Block} {n : ℕ} {w : Counted} {t : List ℕ} → r ≡ Done → p ≡ block_at a 0 → q ≡ block_at b 0 → w ≡ counted (p • q) n
+  pub multiply_done : {p q : Block} {n : ℕ} {w : Counted} {t : List ℕ} → r ≡ Ok tt → p ≡ block_at a 0 → q ≡ block_at b 0 → w ≡ counted (p • q) n
       → t ≡ sets out 0 (bytes_of w.value) → t ≡ multiply_output a b out
   unfolding multiply_output
   multiply_done f ep eq ew et =
@@ -65,12 +64,12 @@ module _ (a b out : List ℕ) {r : Answer} (e : answer_refusal r ≡ multiply_re
 
 -- ---- GHASH, whose answer is r
 
-module _ (h a c out : List ℕ) {r : Answer} (e : answer_refusal r ≡ ghash_refusal h a c out) where
-  pub ghash-refused : {cause : Cause} → r ≡ Refused cause → out ≡ ghash_output h a c out
+module _ (h a c out : List ℕ) {r : Result Unit Cause} (e : answer_refusal r ≡ ghash_refusal h a c out) where
+  pub ghash-refused : {cause : Cause} → r ≡ Err cause → out ≡ ghash_output h a c out
   unfolding ghash_output
   ghash-refused f = kept _ _ out e f
 
-  pub ghash-fits : r ≡ Done → (length out ≡ 16) × (length a ≤ max_bytes) × (length c ≤ max_bytes)
+  pub ghash-fits : r ≡ Ok tt → (length out ≡ 16) × (length a ≤ max_bytes) × (length c ≤ max_bytes)
   unfolding ghash_refusal
   ghash-fits f =
       let after-h = first_passed _ _ _ (sym e ∙ ap answer_refusal f) (omega arith) in
@@ -80,7 +79,7 @@ module _ (h a c out : List ℕ) {r : Answer} (e : answer_refusal r ≡ ghash_ref
       (search agreed, search ltb-false, search ltb-false)
 
   -- k is the block that was read of h, and w the hash
-  pub ghash_done : {k w : Block} {t : List ℕ} → r ≡ Done → k ≡ block_at h 0 → w ≡ ghash k a c → t ≡ sets out 0 (bytes_of w)
+  pub ghash_done : {k w : Block} {t : List ℕ} → r ≡ Ok tt → k ≡ block_at h 0 → w ≡ ghash k a c → t ≡ sets out 0 (bytes_of w)
       → t ≡ ghash_output h a c out
   unfolding ghash_output
   ghash_done f ek ew et =

@@ -2,14 +2,13 @@
 -- down. It rests on the laws of powers (`Powers`), of the field (`Ring`) and of a number's digits (`Steps`).
 use mathlib.Core.Path.{◌≡◌, refl, sym, ap, ap₂, subst, ◌∙◌}
 use Prim.Native.Nat.{ℕ, zero, suc, ◌+◌, ◌-◌, ◌*◌, ◌/◌, ◌%◌, ◌^◌, ◌≤◌, ◌<◌}
-use native.Mathlib.Nat.{add_comm, add-zero, add-suc, lt_of_le_of_lt, div-one}
+use native.Mathlib.Nat.{add_comm, add-zero, add-suc, lt_of_le_of_lt, pow-suc}
 use native.Mathlib.Numerals.{add-one}
 use native.Mathlib.Omega.{arith}
-use lib.Count.{ones_step, count_leading_zeros, leading_top}
+use lib.Count.{ones_step}
 use lib.Pow.{shr_lt, shr_le, shr_mono, shl-shr, shr-shr}
 use Rattle.field.specs.declared.blocks.Block.{Block}
 use Rattle.field.specs.declared.multiplying.Count.{Count}
-use Rattle.field.specs.declared.multiplying.Counted.{Counted}
 use Rattle.field.specs.declared.filling.Powers.{Powers}
 use Rattle.field.specs.Blocks.{◌⊕◌, ◌•◌, zero_block, one, Small}
 use Rattle.field.specs.Powers.{power}
@@ -81,14 +80,6 @@ pub series-none : (h : Block) (k n : ℕ) → k ≡ 0 → counted (words 0 0) n 
 unfolding series
 series-none h k n e = counted_none n (series_steps k) (ap (series h) e) (series-steps-bit k (omega arith))
 
--- two counted products, u and then v, and x made of the first
-pub two_products : (f : Block → Block) (n : ℕ) {a b x : Block} {u v : Counted} → u ≡ counted a (n + 1) → v ≡ counted b (u.count.raised + 1)
-    → x ≡ f u.value → powers_to x v.value v.count.raised ≡ powers_to (f a) b (n + 2)
-two_products f n {a} {b} {x} {u} {v} eu ev ex =
-    let m : u.count.raised + 1 ≡ n + 2 = omega (arith, ap (λ (w : Counted). w.count.raised) eu) in
-    ap₂ (λ (y : Block) (w : Counted). powers_to y w.value w.count.raised) (ex ∙ ap (λ (w : Counted). f w.value) eu) ev
-    ∙ ap (powers_to (f a) b) m
-
 -- of n powers s holds the sum and the next power, and total is its running count
 pub record Built (h : Block) (n total : ℕ) (s : Powers) : Type 0 where
   pub sum_is : s.sum ≡ series h n
@@ -105,13 +96,14 @@ built_one h total small =
     }
 
 module _ {h : Block} {n total : ℕ} {s : Powers} (b : Built h n total s) where
-  built_double : {d : Powers} → d ≡ powers_to (s.sum ⊕ s.sum • s.next) (s.next • s.next) (s.count.raised + 2)
+  built_double : {d : Powers} → d ≡ powers_to (s.sum • s.next ⊕ s.sum) (s.next • s.next) (s.count.raised + 2)
       → Built h (2 * n) (total + 2) d
   built_double e =
       let twice : n + n ≡ 2 * n = omega arith in
       record {
         sum_is = ap (λ (x : Powers). x.sum) e
-            ∙ ap₂ (λ (a p : Block). a ⊕ a • p) b.sum_is b.next_is
+            ∙ ap₂ (λ (a p : Block). a • p ⊕ a) b.sum_is b.next_is
+            ∙ ⊕-comm (series h n • power h n) (series h n)
             ∙ sym (series-add h n n)
             ∙ ap (series h) twice;
         next_is = ap (λ (x : Powers). x.next) e ∙ ap₂ ◌•◌ b.next_is b.next_is ∙ sym (power-add h n n) ∙ ap (power h) twice;
@@ -132,19 +124,18 @@ pub record Building (h : Block) (k : ℕ) (count : Count) (s : Powers) (left : �
   pub some : 0 < k / 2 ^ left
   pub built : Built h (k / 2 ^ left) (count.raised + series_steps (k / 2 ^ left)) s
 
--- of a number's leading zeros and digits, one digit is the highest
-highest : (k : ℕ) → 0 < k → k < 2 ^ 64 → k / 2 ^ (63 - count_leading_zeros 64 k) ≡ 1
-highest k p h =
-    let t = leading_top 64 k p h in
-    let j = t.0 in
-    let e : 63 - count_leading_zeros 64 k ≡ j = omega (arith, t.1) in
-    let low : 1 * 2 ^ j / 2 ^ j ≤ k / 2 ^ j = shr_mono j (omega (arith, t.2)) in
-    rw e (omega (arith, low, shl-shr 1 j, shr_lt {n = k} 1 j (rw (add_comm 1 j, add-one) t.3)))
+-- the highest digit is a one
+highest : (k j : ℕ) → 2 ^ j ≤ k → k < 2 * 2 ^ j → k / 2 ^ j ≡ 1
+highest k j low high =
+    let least : 1 * 2 ^ j / 2 ^ j ≤ k / 2 ^ j = shr_mono j (omega (arith, low)) in
+    let most : k < 2 ^ (1 + j) = rw (add_comm 1 j, add-one, pow-suc) (omega (arith, high)) in
+    omega (arith, least, shl-shr 1 j, shr_lt {n = k} 1 j most)
 
-pub building_start : (h : Block) (k : ℕ) (count : Count) → Small h → 0 < k → k < 2 ^ 64
-    → Building h k count (powers_to one h count.raised) (63 - count_leading_zeros 64 k)
-building_start h k count small p l =
-    let top = highest k p l in
+-- j is the place of the highest
+pub building_start : (h : Block) (k j : ℕ) (count : Count) → Small h → 2 ^ j ≤ k → k < 2 * 2 ^ j → j < 64
+    → Building h k count (powers_to one h count.raised) j
+building_start h k j count small low high l =
+    let top = highest k j low high in
     let steps : count.raised ≡ count.raised + series_steps 1 = omega (arith, series-steps-bit 1 (omega arith)) in
     let s = powers_to one h count.raised in
     record {
@@ -184,21 +175,15 @@ module _ {h : Block} {k : ℕ} {count : Count} {s : Powers} {left : ℕ} (b : Bu
         }
 
     -- a turn where the digit is a zero: d is s doubled
-    pub building_zero : {d : Powers} → d ≡ powers_to (s.sum ⊕ s.sum • s.next) (s.next • s.next) (s.count.raised + 2)
+    pub building_zero : {d : Powers} → d ≡ powers_to (s.sum • s.next ⊕ s.sum) (s.next • s.next) (s.count.raised + 2)
         → k / 2 ^ (left - 1) % 2 ≡ 0 → Building h k count d (left - 1)
     unfolding more
     building_zero e z =
         built_more (omega (arith, more_half)) (omega (arith, more_steps)) (built_double b.built e)
 
     -- and where it is a one: r is d with one power more
-    pub building_one : {d r : Powers} → d ≡ powers_to (s.sum ⊕ s.sum • s.next) (s.next • s.next) (s.count.raised + 2)
+    pub building_one : {d r : Powers} → d ≡ powers_to (s.sum • s.next ⊕ s.sum) (s.next • s.next) (s.count.raised + 2)
         → r ≡ powers_to (d.sum • h ⊕ one) (d.next • h) (d.count.raised + 2) → k / 2 ^ (left - 1) % 2 ≡ 1 → Building h k count r (left - 1)
     unfolding more
     building_one e f z =
         built_more (omega (arith, more_half)) (omega (arith, more_steps)) (built_next (built_double b.built e) f)
-
-  pub building_done : left ≤ 0 → counted s.sum s.count.raised ≡ counted (series h k) (count.raised + series_steps k)
-  building_done l =
-      let none : left ≡ 0 = omega arith in
-      let e : k / 2 ^ left ≡ k = rw none (div-one k) in
-      ap₂ counted (b.built.sum_is ∙ ap (series h) e) (b.built.count-is ∙ ap (λ (x : ℕ). count.raised + series_steps x) e)

@@ -1,6 +1,6 @@
 -- What serves contracts alone and stands in no standard: the numbers of the answers that code gives, and what code's functions
 -- return, written whole, so that a contract is one equation.
-use Rattle.std.specs.Prelude.{◌≡◌, cond, List, ℕ, ◌+◌, ◌<◌, ltb, length, get_or}
+use Rattle.std.specs.Prelude.{◌≡◌, List, Result, Ok, Err, ℕ, ◌+◌, ◌-◌, ◌<◌, length, get_or}
 use Rattle.field.specs.declared.blocks.Block.{Block}
 use Rattle.field.specs.declared.multiplying.Counted.{Counted}
 use Rattle.field.specs.declared.seeking.Sought.{Sought}
@@ -9,11 +9,10 @@ use Rattle.field.specs.declared.streaming.Stream.{Stream}
 use Rattle.field.specs.declared.joining.Joined.{Joined}
 use Rattle.field.specs.declared.Cause.{Cause}
 use Rattle.field.specs.declared.Cause.TheVariants.{InputLength, TooLong, PartLength, OutputLength, SumsLength}
-use Rattle.field.specs.declared.Answer.{Answer}
-use Rattle.field.specs.declared.Answer.TheVariants.{Done, Refused}
+use Rattle.field.specs.Blocks.{value}
+use Rattle.field.specs.Powers.{power}
 use Rattle.field.specs.Sums.{blocks, sum}
 use Rattle.field.specs.Ghash.{Yᵢ}
-use Rattle.field.specs.Answers.{max_bytes}
 use Rattle.field.specs.Parts.{JoinAnswer}
 
 -- the number of a cause (document 01, "Causes and their numbers"; document 02, Q-6)
@@ -25,9 +24,9 @@ cause_number OutputLength = 7
 cause_number SumsLength = 15
 
 -- the number of an answer (document 01, "Causes and their numbers"), 0 where the work was done
-abbrev pub answer_refusal : Answer → ℕ
-answer_refusal Done = 0
-answer_refusal (Refused cause) = cause_number cause
+abbrev pub answer_refusal : {A : Type 0} → Result A Cause → ℕ
+answer_refusal (Ok _) = 0
+answer_refusal (Err cause) = cause_number cause
 
 -- a product and the running count of counted products (document 01, "The file and its five edits")
 abbrev pub counted : Block → ℕ → Counted
@@ -53,11 +52,6 @@ absorbed t s = record { h = t.h; y = Yᵢ t.h t.y s (blocks (length s)); n = t.n
 abbrev pub join_answer : Joined → JoinAnswer
 join_answer j = record { refusal = answer_refusal j.answer; s = j.sum; n = j.length }
 
--- a total, and 2^61 where it passes 2^61 − 1: a word has room for it
-unfoldable pub capped : ℕ → ℕ
-capped n = cond (ltb max_bytes n) (max_bytes + 1) n
-
--- of sixteen words the first n are f 0 .. f (n − 1)
-pub record Loaded (f : ℕ → ℕ) (n : ℕ) (t : List ℕ) : Type 0 where
-  pub size : length t ≡ 16
-  pub each : (j : ℕ) → j < n → get_or t j 0 ≡ f j
+-- sixteen numbers t are the powers of h from h^16 down to h^1
+abbrev pub PowersIn : Block → List ℕ → Type 0
+PowersIn h t = (n : ℕ) → n < 16 → get_or t n 0 ≡ value (power h (16 - n))

@@ -21,7 +21,7 @@ impl Block {
 
     pub const ZERO: Block = Block { hi: 0, lo: 0 };
 
-    // The block of two words. It serves the layers above.
+    // The block of two words. It serves the layers above. Its name tells a word's place, as a `From` of two words would not.
     pub fn from_words(hi: u64, lo: u64) -> Block
         ensures { result ≡ block (hi * 2 ^ 64 + lo) }
     {
@@ -59,7 +59,7 @@ impl Block {
         Block::load(0, s, 0)
     }
 
-    // The sum: exclusive or of the words. It serves the layers above.
+    // The sum: exclusive or of the words. It serves the layers above. A method, and no operator, as the product is none: blocks are no words.
     pub fn plus(self, other: Block) -> Block
         ensures { result ≡ self ⊕ other }
     {
@@ -78,7 +78,7 @@ impl Block {
         store(out, at + 8, 8, self.lo);
     }
 
-    // The sixteen bytes. It serves the layers above.
+    // The sixteen bytes. It serves the layers above. A method, as the library's `to_be_bytes` of a word: the name tells what a `From` would leave open.
     pub fn to_bytes(self) -> [u8; 16]
         ensures { result ≡ bytes_of self }
     {

@@ -1,7 +1,7 @@
 // The sum of a blank file, one whose bytes are all the same, found without reading a byte. The fill byte and the length are public numbers,
 // so branches on them are fine.
 ghost use Rattle.std.specs.Prelude.{◌≡◌, ◌+◌, ◌^◌, ◌<◌, ◌≤◌, replicate};
-ghost use Rattle.field.specs.Blocks.{◌⊕◌, ◌•◌, one, block_at};
+ghost use Rattle.field.specs.Blocks.{◌⊕◌, ◌•◌, block_at};
 ghost use Rattle.field.specs.Series;
 ghost use Rattle.field.specs.Clauses.{counted, powers_to};
 
@@ -17,30 +17,19 @@ struct Powers {
     count: Count,
 }
 
-// From k to 2k: the second half of the powers is the first times H^k.
-fn twice(s: Powers) -> Powers
+// The powers times by, and `added` with them: from k to 2k where by is H^k and what is added the first k of them, and from k to k + 1 where by is H and
+// H^0 is added.
+fn onward(s: Powers, by: Block, added: Block) -> Powers
     requires { s.count.raised + 2 < 2 ^ 64 }
-    ensures { result ≡ powers_to (s.sum ⊕ s.sum • s.next) (s.next • s.next) (s.count.raised + 2) }
+    ensures { result ≡ powers_to (s.sum • by ⊕ added) (s.next • by) (s.count.raised + 2) }
 {
-    let second = counted_product(s.sum, s.next, s.count);
-    let square = counted_product(s.next, s.next, second.count);
-    let sum = s.sum.plus(second.value);
-    let next = square.value;
-    let count = square.count;
-    Powers { sum, next, count }
-}
-
-// From k to k + 1: each power times H, and H^0.
-fn one_more(h: Block, s: Powers) -> Powers
-    requires { s.count.raised + 2 < 2 ^ 64 }
-    ensures { result ≡ powers_to (s.sum • h ⊕ one) (s.next • h) (s.count.raised + 2) }
-{
-    let higher = counted_product(s.sum, h, s.count);
-    let power = counted_product(s.next, h, higher.count);
-    let sum = higher.value.plus(Block::ONE);
-    let next = power.value;
-    let count = power.count;
-    Powers { sum, next, count }
+    let higher = counted_product(s.sum, by, s.count);
+    let power = counted_product(s.next, by, higher.count);
+    Powers {
+        sum: higher.value.plus(added),
+        next: power.value,
+        count: power.count,
+    }
 }
 
 // The sum of H^0 to H^(k - 1), from the highest binary digit of k down: two products double, and two add one power where the digit is a one. The
@@ -60,17 +49,16 @@ fn series(h: Block, k: u64, count: Count) -> Counted
         next: h,
         count,
     };
-    let mut left = 63 - u64::leading_zeros(k);
-    while 0 < left {
-        left -= 1;
-        s = twice(s);
+    for left in (0..k.ilog2()).rev() {
+        s = onward(s, s.next, s.sum);
         if (k >> left) % 2 == 1 {
-            s = one_more(h, s);
+            s = onward(s, h, Block::ONE);
         }
     }
-    let value = s.sum;
-    let count = s.count;
-    Counted { value, count }
+    Counted {
+        value: s.sum,
+        count: s.count,
+    }
 }
 
 // The block of r fill bytes, padded with zero bytes. The requires: they have room in a block.

@@ -8,7 +8,8 @@ use super::blocks::Block;
 use super::multiplying::{Count, counted_product};
 use super::summing::run;
 
-// The most bytes whose number of bits fits a word: 2^61 - 1.
+// The most bytes whose number of bits fits a word: 2^61 - 1. Each function asks it of its own inputs, since no type could: a state may hold any number
+// (document 01, "The file and its five edits").
 pub const MAX_BYTES: u64 = 0x1fff_ffff_ffff_ffff;
 
 // The block of the bit lengths of m and of n bytes. The requires: each has room in its word.
@@ -25,8 +26,7 @@ pub fn closed(h: Block, y: Block, m: u64, n: u64) -> Block
     requires { (m ≤ max_bytes) × (n ≤ max_bytes) }
     ensures { result ≡ (y ⊕ length_block m n) • h }
 {
-    let last = counted_product(y.plus(length_block(m, n)), h, Count::none());
-    last.value
+    counted_product(y.plus(length_block(m, n)), h, Count::none()).value
 }
 
 // GHASH of a and c under h. It serves the layers above. The requires: the number of bits of each fits a word.

@@ -1,23 +1,26 @@
 // Parts of one file joined under one H: from the parts' sums and lengths the sum and the length of the whole, without reading a byte of them. Lengths are
 // public numbers, so branches on them are fine.
-ghost use Rattle.std.specs.Prelude.{◌≡◌, ◌*◌, length};
+ghost use Rattle.std.specs.Prelude.{◌≡◌, ◌*◌, ◌%◌, ◌≤◌, ◌<◌, MatchOption, IfOk, length, not, eqb};
+ghost use Rattle.std.specs.List.{list_any};
 ghost use Rattle.field.specs.Parts;
 ghost use Rattle.field.specs.Parts.{join_refusal, joined_sum, parts_of, total_of};
-ghost use Rattle.field.specs.Clauses.{answer_refusal, join_answer, capped};
+ghost use Rattle.field.specs.Answers.{max_bytes};
+ghost use Rattle.field.specs.Clauses.{answer_refusal, join_answer};
 
+use super::Cause;
 use super::blocks::Block;
 use super::hashing::MAX_BYTES;
 use super::multiplying::Count;
 use super::seeking::times_power;
 use super::summing::blocks;
-use super::{Answer, Cause};
 
-// The sum and the length of the whole, those of the empty file where the join is refused, and the answer.
+// The sum and the length of the whole, those of the empty file where the join is refused, and the answer. It is no Result as a whole, since a refused join
+// gives a sum and a length too (document 02, Q-6).
 #[derive(Clone, Copy)]
 pub struct Joined {
     pub sum: Block,
     pub length: u64,
-    pub answer: Answer,
+    pub answer: Result<(), Cause>,
 }
 
 // Joins parts: sums holds sixteen bytes a part, one part behind the other, and lengths a length each. Refused, in this order, where h is not sixteen bytes,
@@ -26,75 +29,70 @@ pub struct Joined {
 pub fn join(h: &[u8], sums: &[u8], lengths: &[u64]) -> Joined
     ensures { join_answer result ≡ Parts.joined h.now sums.now lengths.now }
 {
-    let answer = join_refusal(h, sums, lengths);
-    if let Answer::Refused(_) = answer {
-        return Joined {
+    match joined_length(h, sums, lengths) {
+        Err(cause) => Joined {
             sum: Block::ZERO,
             length: 0,
-            answer,
-        };
-    }
-    let sum = joined_sum(Block::from_bytes(h), sums, lengths);
-    let length = total(lengths);
-    Joined {
-        sum,
-        length,
-        answer,
+            answer: Err(cause),
+        },
+        Ok(length) => Joined {
+            sum: joined_sum(Block::from_bytes(h), sums, lengths),
+            length,
+            answer: Ok(()),
+        },
     }
 }
 
-// The refusal of a join, or Done.
-fn join_refusal(h: &[u8], sums: &[u8], lengths: &[u64]) -> Answer
-    ensures { answer_refusal result ≡ join_refusal h.now sums.now lengths.now }
+// The length of the whole, or the refusal of the join.
+fn joined_length(h: &[u8], sums: &[u8], lengths: &[u64]) -> Result<u64, Cause>
+    ensures refusal { answer_refusal result ≡ join_refusal h.now sums.now lengths.now }
+    ensures length { IfOk result (λ n. n ≡ total_of lengths.now) }
 {
     if h.len() != 16 {
-        return Answer::Refused(Cause::InputLength);
+        return Err(Cause::InputLength);
     }
     // 16 times the number of lengths might not fit a word
     if sums.len() % 16 != 0 {
-        return Answer::Refused(Cause::SumsLength);
+        return Err(Cause::SumsLength);
     }
     if sums.len() / 16 != lengths.len() {
-        return Answer::Refused(Cause::SumsLength);
+        return Err(Cause::SumsLength);
     }
     if unaligned(lengths) {
-        return Answer::Refused(Cause::PartLength);
+        return Err(Cause::PartLength);
     }
-    if total(lengths) > MAX_BYTES {
-        return Answer::Refused(Cause::TooLong);
-    }
-    Answer::Done
+    total(lengths).ok_or(Cause::TooLong)
 }
 
 // Whether any length but the last is not a multiple of 16.
 fn unaligned(lengths: &[u64]) -> bool
     ensures { result ≡ Parts.unaligned lengths.now }
 {
-    let mut next: usize = 1;
-    while next < lengths.len() {
-        if lengths[next - 1] % 16 != 0 {
-            return true;
-        }
-        next += 1;
+    match lengths {
+        [] => false,
+        [front @ .., _] => any_partial(front),
     }
-    false
 }
 
-// The total of the lengths, and 2^61 where it passes 2^61 - 1: no sum wraps, whatever the lengths are.
-fn total(lengths: &[u64]) -> u64
-    ensures { result ≡ capped (total_of lengths.now) }
+// Whether any length is not a multiple of 16.
+fn any_partial(lengths: &[u64]) -> bool
+    ensures { result ≡ list_any (λ n. not (eqb (n % 16) 0)) lengths.now }
+{
+    lengths.iter().any(|n| n % 16 != 0)
+}
+
+// The total of the lengths, and none where it passes 2^61 - 1: no sum wraps, whatever the lengths are.
+fn total(lengths: &[u64]) -> Option<u64>
+    ensures { MatchOption result (max_bytes < total_of lengths.now) (λ n. (n ≡ total_of lengths.now) × (n ≤ max_bytes)) }
 {
     let mut sum: u64 = 0;
-    let mut i: usize = 0;
-    while i < lengths.len() {
-        let n = lengths[i];
+    for &n in lengths {
         if n > MAX_BYTES - sum {
-            return MAX_BYTES + 1;
+            return None;
         }
         sum += n;
-        i += 1;
     }
-    sum
+    Some(sum)
 }
 
 // The sum of the whole, from the front: what is joined so far goes times H to the blocks of the next part, whose sum is added. The requires: each part
@@ -104,12 +102,10 @@ fn joined_sum(h: Block, sums: &[u8], lengths: &[u64]) -> Block
     ensures { result ≡ joined_sum h (parts_of sums.now 0 lengths.now) }
 {
     let mut sum = Block::ZERO;
-    let mut i: usize = 0;
-    while i < lengths.len() {
+    for i in 0..lengths.len() {
         let k = blocks(lengths[i]);
         let front = times_power(sum, h, k, Count::none());
         sum = front.value.plus(Block::load(0, sums, i));
-        i += 1;
     }
     sum
 }

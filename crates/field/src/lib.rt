@@ -15,7 +15,7 @@ pub mod summing;
 
 ghost use Rattle.std.specs.Prelude.{◌≡◌};
 ghost use Rattle.field.specs.Answers.{multiply_refusal, multiply_output, ghash_refusal, ghash_output};
-ghost use Rattle.field.specs.Clauses.{answer_refusal};
+ghost use Rattle.field.specs.Clauses.{answer_refusal, cause_number};
 
 pub use blocks::Block;
 use hashing::{MAX_BYTES, hash};
@@ -37,72 +37,74 @@ pub enum Cause {
     SumsLength,
 }
 
-#[derive(Clone, Copy)]
-pub enum Answer {
-    Done,
-    Refused(Cause),
+impl From<Cause> for u64 {
+    ghost from_gives = { λ cause n. n ≡ cause_number cause };
+
+    fn from(cause: Cause) -> u64 {
+        match cause {
+            Cause::InputLength => 1,
+            Cause::TooLong => 2,
+            Cause::PartLength => 5,
+            Cause::OutputLength => 7,
+            Cause::SumsLength => 15,
+        }
+    }
 }
 
 // The product of two blocks, written to out. Refused, in this order, where a or b is not sixteen bytes and where out is not; out
 // then stays as it was. The time depends on no byte.
-pub fn multiply(a: &[u8], b: &[u8], out: &mut [u8]) -> Answer
+pub fn multiply(a: &[u8], b: &[u8], out: &mut [u8]) -> Result<(), Cause>
     ensures answer { answer_refusal result ≡ multiply_refusal a.now b.now out.old }
     ensures output { out.new ≡ multiply_output a.now b.now out.old }
 {
-    let answer = multiply_refusal(a, b, out);
-    if let Answer::Refused(_) = answer {
-        return answer;
-    }
+    multiply_refusal(a, b, out)?;
     let product = counted_product(Block::from_bytes(a), Block::from_bytes(b), Count::none()).value;
     product.write(out, 0);
-    answer
+    Ok(())
 }
 
-// The refusal of the block call, or Done.
-fn multiply_refusal(a: &[u8], b: &[u8], out: &[u8]) -> Answer
+// The refusal of the block call, where there is one.
+fn multiply_refusal(a: &[u8], b: &[u8], out: &[u8]) -> Result<(), Cause>
     ensures { answer_refusal result ≡ multiply_refusal a.now b.now out.now }
 {
     if a.len() != 16 {
-        return Answer::Refused(Cause::InputLength);
+        return Err(Cause::InputLength);
     }
     if b.len() != 16 {
-        return Answer::Refused(Cause::InputLength);
+        return Err(Cause::InputLength);
     }
     if out.len() != 16 {
-        return Answer::Refused(Cause::OutputLength);
+        return Err(Cause::OutputLength);
     }
-    Answer::Done
+    Ok(())
 }
 
 // GHASH of a and c under the hash key h, written to out. Refused, in this order, where h is not sixteen bytes, where out is not,
 // and where a or c is longer than 2^61 - 1 bytes; out then stays as it was. The time depends on the lengths alone.
-pub fn ghash(h: &[u8], a: &[u8], c: &[u8], out: &mut [u8]) -> Answer
+pub fn ghash(h: &[u8], a: &[u8], c: &[u8], out: &mut [u8]) -> Result<(), Cause>
     ensures answer { answer_refusal result ≡ ghash_refusal h.now a.now c.now out.old }
     ensures output { out.new ≡ ghash_output h.now a.now c.now out.old }
 {
-    let answer = ghash_refusal(h, a, c, out);
-    if let Answer::Refused(_) = answer {
-        return answer;
-    }
+    ghash_refusal(h, a, c, out)?;
     hash(Block::from_bytes(h), a, c).write(out, 0);
-    answer
+    Ok(())
 }
 
-// The refusal of GHASH, or Done.
-fn ghash_refusal(h: &[u8], a: &[u8], c: &[u8], out: &[u8]) -> Answer
+// The refusal of GHASH, where there is one.
+fn ghash_refusal(h: &[u8], a: &[u8], c: &[u8], out: &[u8]) -> Result<(), Cause>
     ensures { answer_refusal result ≡ ghash_refusal h.now a.now c.now out.now }
 {
     if h.len() != 16 {
-        return Answer::Refused(Cause::InputLength);
+        return Err(Cause::InputLength);
     }
     if out.len() != 16 {
-        return Answer::Refused(Cause::OutputLength);
+        return Err(Cause::OutputLength);
     }
     if a.len() as u64 > MAX_BYTES {
-        return Answer::Refused(Cause::TooLong);
+        return Err(Cause::TooLong);
     }
     if c.len() as u64 > MAX_BYTES {
-        return Answer::Refused(Cause::TooLong);
+        return Err(Cause::TooLong);
     }
-    Answer::Done
+    Ok(())
 }

@@ -58,7 +58,8 @@ pub fn squared(a: Block) -> Block
 }
 
 // A number of counted products. Its field is private, so that outside this file a count can only be begun at none, be raised by the
-// counted product and be read: no count comes about in another way.
+// counted product and be read: no count comes about in another way. How much room a count must have stands in each contract, and not in the type: it is
+// as many products as the function may take, and so differs.
 #[derive(Clone, Copy)]
 pub struct Count {
     raised: u64,

@@ -10,11 +10,7 @@ fn byte_at(lead: usize, s: &[u8], v: usize) -> u8
     if v < lead {
         return 0;
     }
-    let i = v - lead;
-    if s.len() <= i {
-        return 0;
-    }
-    s[i]
+    s.get(v - lead).copied().unwrap_or(0)
 }
 
 // The number of the eight bytes from place at on, with no test for each byte. It serves the crate. The requires: they lie in s.
@@ -22,13 +18,9 @@ pub fn word_at(s: &[u8], at: usize) -> u64
     requires { at + 8 ≤ length s.now }
     ensures { result ≡ number s.now at 8 }
 {
-    let mut n: u64 = 0;
-    let mut k: usize = 0;
-    while k < 8 {
-        n = n * 256 + s[at + k] as u64;
-        k += 1;
-    }
-    n
+    let mut bytes = [0u8; 8];
+    bytes.copy_from_slice(&s[at..at + 8]);
+    u64::from_be_bytes(bytes)
 }
 
 // The number of the size bytes from place at of lead zero bytes followed by s. It serves the layers above, which read words so.
@@ -38,11 +30,9 @@ pub fn number_at(lead: usize, s: &[u8], at: usize, size: usize) -> u64
     ensures { result ≡ number (replicate lead 0 ++ s.now) at size }
 {
     let mut n: u64 = 0;
-    let mut k: usize = 0;
-    while k < size {
+    for k in 0..size {
         let b = byte_at(lead, s, at + k);
         n = n * 256 + b as u64;
-        k += 1;
     }
     n
 }
@@ -54,9 +44,7 @@ pub fn store(out: &mut [u8], at: usize, size: usize, v: u64)
     ensures { out.new ≡ sets out.old at (bytes size v) }
 {
     let mut rest = v;
-    let mut k = size;
-    while 0 < k {
-        k -= 1;
+    for k in (0..size).rev() {
         out[at + k] = (rest % 256) as u8;
         rest /= 256;
     }

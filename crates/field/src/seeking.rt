@@ -22,12 +22,12 @@ fn steps_of(k: u64) -> u64
     if k == 0 {
         return 0;
     }
-    let ones = u64::count_ones(k);
-    let width = 64 - u64::leading_zeros(k);
+    let ones = k.count_ones();
+    let width = 64 - k.leading_zeros();
     (ones + width - 1) as u64
 }
 
-// y times x^bit: a counted product where the bit of the exponent is one, and y itself where it is zero.
+// y times x^bit: a counted product where the bit of the exponent is one, and y itself where it is zero. The bit is a number, as the power is by it.
 fn times_bit(y: Block, x: Block, bit: u64, count: Count) -> Counted
     requires { (bit ≤ 1) × (count.raised < 2 ^ 64 - 1) }
     ensures { result ≡ counted (y • power x bit) (count.raised + bit) }
@@ -49,6 +49,7 @@ pub fn seek(base: Block, k: u64, count: Count) -> Sought
     let mut x = base;
     let mut left = k;
     let mut running = count;
+    // a while: left goes down by halves, as no range does
     while 1 < left {
         let next = times_bit(y, x, left % 2, running);
         running = next.count;
@@ -59,12 +60,10 @@ pub fn seek(base: Block, k: u64, count: Count) -> Sought
         left /= 2;
     }
     let last = times_bit(y, x, left, running);
-    let power = last.value;
-    let count = last.count;
     Sought {
-        power,
+        power: last.value,
         steps: steps_of(k),
-        count,
+        count: last.count,
     }
 }
 
@@ -74,9 +73,7 @@ pub fn times_power(x: Block, base: Block, k: u64, count: Count) -> Counted
     ensures { result ≡ counted (x • power base k) (count.raised + steps k + 1) }
 {
     let found = seek(base, k, count);
-    let power = found.power;
-    let count = found.count;
-    counted_product(x, power, count)
+    counted_product(x, found.power, found.count)
 }
 
 // The companion I = H^(2^128 − 2): 127 squarings of H, each followed by a product. It serves the layers above.
@@ -85,12 +82,9 @@ pub fn companion(h: Block) -> Block
 {
     let mut x = h;
     let mut y = Block::ONE;
-    let mut j: usize = 0;
-    while j < 127 {
+    for _ in 0..127usize {
         x = squared(x);
-        let next = counted_product(y, x, Count::none());
-        y = next.value;
-        j += 1;
+        y = counted_product(y, x, Count::none()).value;
     }
     y
 }

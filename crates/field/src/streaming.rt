@@ -34,10 +34,11 @@ impl Stream {
         requires { self.n + length chunk.now ≤ max_bytes }
         ensures { result ≡ absorbed self chunk.now }
     {
-        let h = self.h;
-        let y = run(h, self.y, chunk);
-        let n = self.n + chunk.len() as u64;
-        Stream { h, y, n }
+        Stream {
+            h: self.h,
+            y: run(self.h, self.y, chunk),
+            n: self.n + chunk.len() as u64,
+        }
     }
 
     // The hash of all the bytes taken. It serves the layers above. The requires: the number of their bits fits a word.
@@ -45,8 +46,6 @@ impl Stream {
         requires { self.n ≤ max_bytes }
         ensures { result ≡ finished self }
     {
-        let h = self.h;
-        let y = self.y;
-        closed(h, y, self.n, 0)
+        closed(self.h, self.y, self.n, 0)
     }
 }

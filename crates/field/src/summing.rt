@@ -13,11 +13,7 @@ use super::multiplying::{Count, Counted, counted_product};
 pub fn blocks(n: u64) -> u64
     ensures { result ≡ Sums.blocks n }
 {
-    let whole = n / 16;
-    if n % 16 == 0 {
-        return whole;
-    }
-    whole + 1
+    n.div_ceil(16)
 }
 
 // Horner's rule from start over the first q blocks of lead zero bytes followed by a added to b, byte by byte; the shorter is
@@ -37,13 +33,11 @@ pub fn fold(
 {
     let mut y = start;
     let mut running = count;
-    let mut i: usize = 0;
-    while i < q {
+    for i in 0..q {
         let x = Block::load(lead, a, i).plus(Block::load(lead, b, i));
         let next = counted_product(y.plus(x), h, running);
         y = next.value;
         running = next.count;
-        i += 1;
     }
     Counted {
         value: y,
@@ -59,8 +53,7 @@ fn run_singly(h: Block, start: Block, s: &[u8]) -> Block
     ensures { result ≡ Yᵢ h start s.now (Sums.blocks (length s.now)) }
 {
     let q = blocks(s.len() as u64) as usize;
-    let y = fold(h, start, 0, s, &s[..0], q, Count::none());
-    y.value
+    fold(h, start, 0, s, &[], q, Count::none()).value
 }
 
 // The same, sixteen blocks at a time as far as they go.

@@ -1,4 +1,4 @@
--- The edits, one law for each return: the table's rows as factors, the new sum and count, and the answer of an edit. They rest on the laws
+-- The edits: the table's rows as factors, the new sum, and an edit asked for, one law for each return. They rest on the laws
 -- of lengths (`Accepted`, `ShapeLaws`) and on Horner's rule and the ring's laws of the field.
 use mathlib.Core.Path.{◌≡◌, sym, ap, ap₂, ◌∙◌}
 use mathlib.Core.Logic.{◌⊎◌, inl, inr}
@@ -18,46 +18,33 @@ use Rattle.field.proofs.Horner.{horner}
 use Rattle.field.proofs.XorBytes.{length-xor-max}
 use Rattle.file.specs.declared.causes.Cause.{Cause}
 use Rattle.file.specs.declared.geometry.Kind.{Kind}
-use Rattle.file.specs.declared.geometry.Kind.TheVariants.{Change, Append, Prepend, DropFront, CutTail}
+use Rattle.file.specs.declared.geometry.Kind.TheVariants.{Change, Prepend, DropFront, CutTail}
 use Rattle.file.specs.declared.geometry.Shape.{Shape}
-use Rattle.file.specs.declared.geometry.Measured.{Measured}
-use Rattle.file.specs.declared.geometry.Measured.TheVariants as measured
+use Rattle.std.specs.Prelude.{Result, Ok, Err}
 use Rattle.file.specs.declared.edits.Factors.{Factors}
 use Rattle.file.specs.declared.edits.Moved.{Moved}
-use Rattle.file.specs.declared.edits.Asked.{Asked}
-use Rattle.file.specs.declared.edits.Asked.TheVariants as ask
 use Rattle.file.specs.declared.states.State.{State}
-use Rattle.file.specs.Edits.{Edit, Geometry, geometry, kind_refusal, stands_on, length_after, touched, exponent, count_of}
+use Rattle.file.specs.Edits.{Geometry, geometry, kind_refusal, stands_on, length_after, touched, exponent, count_of}
 use Rattle.file.specs.Table.{placed_sum, new_sum}
-use Rattle.file.specs.States.{StateAnswer, accepted_with, refused_with, AskAnswer, sum_after, asked_by, asked, put, put_with, edited}
-use Rattle.file.specs.Clauses.{cause_number, geometry_of, asked_of}
+use Rattle.file.specs.States.{AskAnswer, sum_after, asked_by}
+use Rattle.file.specs.Clauses.{geometry_of, asked_of}
 use Rattle.file.proofs.Accepted.{accepted_as}
-use Rattle.file.proofs.ShapeLaws.{reach, touched-blocks, touched-some, cause_pos, geometry-refusal, geometry-fits, geometry-nothing}
+use Rattle.file.proofs.ShapeLaws.{reach, touched-blocks, touched-some, geometry-refusal, geometry-fits, geometry-nothing}
 
 -- ---- the table's rows as factors
 
 module _ {kind : Kind} (h i s w : Block) where
-  pub factors-change : kind ≡ Change → (k : ℕ) → w • power h k ⊕ s ≡ new_sum kind h i s w k
+  pub factors-shifted : (kind ≡ Change) ⊎ (kind ≡ Prepend) ⊎ (kind ≡ DropFront) → (k : ℕ) → w • power h k ⊕ s ≡ new_sum kind h i s w k
   unfolding new_sum
-  factors-change q k = rw q (⊕-comm (w • power h k) s)
-
-  pub factors-append : kind ≡ Append → (k : ℕ) → s • power h k ⊕ w ≡ new_sum kind h i s w k
-  unfolding new_sum
-  factors-append q k = rw q
-
-  pub factors-prepend : kind ≡ Prepend → (k : ℕ) → w • power h k ⊕ s ≡ new_sum kind h i s w k
-  unfolding new_sum
-  factors-prepend q k = rw q (⊕-comm (w • power h k) s)
-
-  pub factors-drop : kind ≡ DropFront → (k : ℕ) → w • power h k ⊕ s ≡ new_sum kind h i s w k
-  unfolding new_sum
-  factors-drop q k = rw q (⊕-comm (w • power h k) s)
+  factors-shifted (inl q) k = rw q (⊕-comm (w • power h k) s)
+  factors-shifted (inr (inl q)) k = rw q (⊕-comm (w • power h k) s)
+  factors-shifted (inr (inr q)) k = rw q (⊕-comm (w • power h k) s)
 
   pub factors-cut : {y : Block} → kind ≡ CutTail → y ≡ s ⊕ w → (k : ℕ) → y • power i k ⊕ words 0 0 ≡ new_sum kind h i s w k
   unfolding new_sum
   factors-cut q e k = rw (q, e, zero-words) (⊕-zero ((s ⊕ w) • power i k) (small-• (s ⊕ w) (power i k)))
 
--- ---- the new sum and the count
+-- ---- the new sum
 
 -- w is what the fold over the placed bytes gives, f the factors of w, t their product with a power, and r the new sum
 pub moved_sum : (kind : Kind) (h i s : Block) (placed : List ℕ) (q k : ℕ) (f : Factors) {w t : Counted} {c d : ℕ} {r : Block}
@@ -70,38 +57,33 @@ moved_sum kind h i s placed q k f {w} eq ew ef et er =
     ap (λ (c : Counted). c.value) ew ∙ ap₂ (λ (z : Block) (j : ℕ). Yᵢ h z placed j) zero-words eq ∙ horner h placed in
     er ∙ ap (λ (c : Counted). c.value ⊕ f.added) et ∙ ef k ∙ ap (λ (v : Block). new_sum kind h i s v k) all
 
--- the running count, begun at none: of the fold and then of the product with a power
-pub moved-count : (q k : ℕ) {none : ℕ} {w t : Counted} {y z : Block} → none ≡ 0 → w ≡ counted y (none + q)
-    → t ≡ counted z (w.count.raised + steps k + 1) → t.count.raised ≡ q + steps k + 1
-moved-count q k en ew et =
-    omega (arith, en, ap (λ (c : Counted). c.count.raised) et, ap (λ (c : Counted). c.count.raised) ew)
-
 -- ---- an edit asked for
 
 -- an answer is that of an edit of a kind, at p, with given bytes a and of a change new bytes b
 abbrev Asks : (st : State) (kind : Kind) (p : ℕ) (a b : List ℕ) → AskAnswer → Type 0
 Asks st kind p a b x = x ≡ asked_by st kind (geometry kind p (length a) (length b) st.n) a b
 
-module _ (st : State) (kind : Kind) (p : ℕ) (a b : List ℕ) {m : Measured}
-    (e : geometry_of st.n m ≡ geometry kind p (length a) (length b) st.n) where
-  pub ask_refused : {c : Cause} → m ≡ measured.Refused c → Asks st kind p a b (asked_of st (ask.Refused c))
-  unfolding asked_by sum_after count_of
-  ask_refused g = rw (sym e ∙ ap (geometry_of st.n) g)
+pub ask_refused : (st : State) (kind : Kind) (p : ℕ) (a b : List ℕ) (c : Cause)
+    → geometry_of st.n (Err c) ≡ geometry kind p (length a) (length b) st.n → Asks st kind p a b (asked_of st (Err c))
+unfolding asked_by sum_after count_of
+ask_refused st kind p a b c e = rw (← e)
 
-  module _ {x : Shape} (g : m ≡ measured.Fits x) where
+module _ (st : State) (kind : Kind) (p : ℕ) (a b : List ℕ) {m : Result Shape Cause}
+    (e : geometry_of st.n m ≡ geometry kind p (length a) (length b) st.n) where
+  module _ {x : Shape} (g : m ≡ Ok x) where
     pub fits-refusal : kind_refusal kind p (length a) (length b) st.n ≡ 0
     fits-refusal =
         sym (geometry-refusal kind p (length a) (length b) st.n) ∙ sym (ap (λ (y : Geometry). y.refusal) e)
-        ∙ ap (λ (y : Measured). (geometry_of st.n y).refusal) g
+        ∙ ap (λ (y : Result Shape Cause). (geometry_of st.n y).refusal) g
 
     pub ask-nothing : {none : Count} → length a ≡ 0 → none.raised ≡ 0
-        → Asks st kind p a b (asked_of st (ask.Fits (record { s = st.s; n = st.n; count = none })))
+        → Asks st kind p a b (asked_of st (Ok (record { s = st.s; n = st.n; count = none })))
     unfolding asked_by sum_after count_of
     ask-nothing z c = rw (sym (geometry-nothing kind p (length a) (length b) st.n fits-refusal z), c)
 
     module _ (z : 0 < length a) where
       fits-shape :
-          geometry_of st.n (measured.Fits x) ≡ record {
+          geometry_of st.n (Ok x) ≡ record {
             refusal = 0;
             lead = stands_on kind p (length a) st.n % 16;
             q = touched (stands_on kind p (length a) st.n) (length a);
@@ -128,26 +110,8 @@ module _ (st : State) (kind : Kind) (p : ℕ) (a b : List ℕ) {m : Measured}
 
       pub ask_done : {v : Moved}
           → v.s ≡ new_sum kind st.h st.i st.s (sum st.h (replicate x.lead 0 ++ xor_bytes a b)) x.k
-          → v.n ≡ x.n → v.count.raised ≡ x.q + steps x.k + 1 → Asks st kind p a b (asked_of st (ask.Fits v))
+          → v.n ≡ x.n → v.count.raised ≡ x.q + steps x.k + 1 → Asks st kind p a b (asked_of st (Ok v))
       unfolding asked_by sum_after placed_sum count_of
       ask_done es en ec =
           let some = ne_eqb x.q 0 (λ (y : x.q ≡ 0). touched-some _ _ z (sym (ap (λ (w : Geometry). w.q) fits-shape) ∙ y)) in
           rw (sym e ∙ ap (geometry_of st.n) g) (simp some (rw (es, en, ec)))
-
--- ---- what was asked for, put
-
-module _ (st : State) {x : Asked} where
-  pub put_refused : {c : Cause} → x ≡ ask.Refused c → refused_with st (cause_number c) ≡ put_with st (asked_of st x)
-  unfolding put_with
-  put_refused {c} e = rw e (simp (ne_eqb _ _ (λ (z : cause_number c ≡ 0). omega (arith, cause_pos c))))
-
-  -- r is the state with what was moved put into it
-  pub put_done : {v : Moved} {r : State} → x ≡ ask.Fits v → r ≡ put st v.s v.n
-      → accepted_with r v.count.raised ≡ put_with st (asked_of st x)
-  unfolding put_with
-  put_done {v} e er = rw e (ap (λ (y : State). accepted_with y v.count.raised) er)
-
--- and so an edit of a state
-pub edited-by : (st : State) (e : Edit) {x : StateAnswer} {y : AskAnswer} → y ≡ asked st e → x ≡ put_with st y → x ≡ edited st e
-unfolding edited
-edited-by st e ey ex = ex ∙ ap (put_with st) ey

@@ -1,16 +1,12 @@
--- What an edit does to lengths (`specs/Edits`): one law for each return of the functions that measure it, and what an accepted edit's shape
--- is. They rest on the refusals read backwards (`Accepted`) and on the law of how many blocks bytes fill (field's `Horner`).
+-- What an edit does to lengths (`specs/Edits`): what holds of an accepted edit, the geometry by the refusal, and what an accepted edit's shape
+-- is, row by row. They rest on the refusals read backwards (`Accepted`) and on the law of how many blocks bytes fill (field's `Horner`).
 use mathlib.Core.Path.{◌≡◌, refl, sym, ap, ◌∙◌}
 use mathlib.Core.Bool.{Bool, true, false, cond}
 use mathlib.Core.Logic.{◌≢◌}
-use mathlib.Core.List.{[], ◌∷◌}
 use Prim.Native.Nat.{ℕ, ◌+◌, ◌-◌, ◌/◌, ◌%◌, ◌≤◌, ◌<◌}
-use native.Mathlib.Nat.{zero-add}
 use native.Mathlib.Omega.{arith}
-use lib.Dec.{eqb, ltb}
-use borrow.Author.Tests.{eqb-true, lt-ltb, le-ltb, eq-eqb, ne_eqb}
-use Rattle.refusals.specs.Refusals.{first}
-use Rattle.refusals.proofs.Laws.{first_here, first_later, differ, agree}
+use lib.Dec.{eqb}
+use borrow.Author.Tests.{eqb-true, eq-eqb, ne_eqb}
 use Rattle.field.specs.Field.{blocks, max_bytes}
 use Rattle.field.proofs.BlockCounts.{blocks-value}
 use Rattle.file.specs.declared.causes.Cause.{Cause}
@@ -19,57 +15,10 @@ use Rattle.file.specs.declared.causes.Cause.TheVariants.{NumbersUsed, SlipLength
 use Rattle.file.specs.declared.geometry.Kind.{Kind}
 use Rattle.file.specs.declared.geometry.Kind.TheVariants.{Change, Append, Prepend, DropFront, CutTail}
 use Rattle.file.specs.declared.geometry.Shape.{Shape}
-use Rattle.file.specs.declared.geometry.Measured.TheVariants as measured
-use Rattle.file.specs.declared.causes.Answer.{Answer}
-use Rattle.file.specs.declared.causes.Answer.TheVariants as answer
+use Rattle.std.specs.Prelude.{Ok}
 use Rattle.file.specs.Edits.{kind_causes, kind_refusal, stands_on, length_after, touched, exponent, Geometry, untouched, geometry}
-use Rattle.file.specs.Clauses.{cause_number, answer_refusal, geometry_of}
+use Rattle.file.specs.Clauses.{cause_number, geometry_of}
 use Rattle.file.proofs.Accepted.{accepted}
-
--- ---- the returns of `refusal`, past the limit on the length
-
-module _ (kind : Kind) (p l r n : ℕ) where
-  pub past_limit : max_bytes < n → 2 ≡ kind_refusal kind p l r n
-  unfolding kind_refusal
-  past_limit h = first_here _ _ _ (lt-ltb _ _ h)
-
-  -- x is the refusal by the causes of a kind
-  within-limit : (k : Kind) {x : ℕ} → kind ≡ k → n ≤ max_bytes → x ≡ first (kind_causes k p l r n) → x ≡ kind_refusal kind p l r n
-  unfolding kind_refusal
-  within-limit k q h e = first_later _ _ _ (le-ltb _ _ h) (e ∙ ap (λ (z : Kind). first (kind_causes z p l r n)) (sym q))
-
-  module _ (h : n ≤ max_bytes) where
-    pub change-unequal : kind ≡ Change → (l ≡ r → ⊥) → 4 ≡ kind_refusal kind p l r n
-    unfolding kind_causes
-    change-unequal q d = within-limit Change q h (first_here _ _ _ (differ d))
-
-    pub change-within : {x : ℕ} → kind ≡ Change → l ≡ r → x ≡ first ((ltb n (p + l), 3) ∷ []) → x ≡ kind_refusal kind p l r n
-    unfolding kind_causes
-    change-within q d e = within-limit Change q h (first_later _ _ _ (agree d) e)
-
-    pub append-room : {x : ℕ} → kind ≡ Append → x ≡ first ((ltb max_bytes (n + l), 2) ∷ []) → x ≡ kind_refusal kind p l r n
-    unfolding kind_causes
-    append-room q e = within-limit Append q h e
-
-    pub prepend-broken : kind ≡ Prepend → (l % 16 ≡ 0 → ⊥) → 5 ≡ kind_refusal kind p l r n
-    unfolding kind_causes
-    prepend-broken q d = within-limit Prepend q h (first_here _ _ _ (differ d))
-
-    pub prepend-room : {x : ℕ} → kind ≡ Prepend → l % 16 ≡ 0 → x ≡ first ((ltb max_bytes (n + l), 2) ∷ []) → x ≡ kind_refusal kind p l r n
-    unfolding kind_causes
-    prepend-room q d e = within-limit Prepend q h (first_later _ _ _ (agree d) e)
-
-    pub drop-broken : kind ≡ DropFront → (l % 16 ≡ 0 → ⊥) → 5 ≡ kind_refusal kind p l r n
-    unfolding kind_causes
-    drop-broken q d = within-limit DropFront q h (first_here _ _ _ (differ d))
-
-    pub drop-within : {x : ℕ} → kind ≡ DropFront → l % 16 ≡ 0 → x ≡ first ((ltb n (0 + l), 3) ∷ []) → x ≡ kind_refusal kind p l r n
-    unfolding kind_causes
-    drop-within q d e = within-limit DropFront q h (first_later _ _ _ (agree d) (simp zero-add at e))
-
-    pub cut-within : {x : ℕ} → kind ≡ CutTail → x ≡ first ((ltb n (0 + l), 3) ∷ []) → x ≡ kind_refusal kind p l r n
-    unfolding kind_causes
-    cut-within q e = within-limit CutTail q h (simp zero-add at e)
 
 -- ---- accepted edits
 
@@ -127,10 +76,6 @@ module _ (kind : Kind) (p l r n : ℕ) where
   unfolding geometry
   geometry-refusal = refusal_is (kind_refusal kind p l r n) _ _ _ refl (refusal-zero (eqb l 0) _ _ refl refl) refl
 
-  pub geometry-refused : (c : Cause) → cause_number c ≡ kind_refusal kind p l r n → geometry_of n (measured.Refused c) ≡ geometry kind p l r n
-  unfolding geometry
-  geometry-refused c e = simp (← e, ne_eqb _ _ (λ (z : cause_number c ≡ 0). omega (arith, cause_pos c)))
-
   pub geometry-nothing :
       kind_refusal kind p l r n ≡ 0 → l ≡ 0 → untouched 0 n ≡ geometry kind p l r n
   unfolding geometry
@@ -153,20 +98,6 @@ module _ (kind : Kind) (p l r n : ℕ) where
   unfolding geometry
   geometry-none e = simp (ne_eqb _ _ e)
 
--- the answer that measuring an edit gives, from that of its refusals
-module _ (kind : Kind) (p l r n : ℕ) {a : Answer} (e : answer_refusal a ≡ kind_refusal kind p l r n) where
-  pub measured-refused : {c : Cause} → a ≡ answer.Refused c → geometry_of n (measured.Refused c) ≡ geometry kind p l r n
-  measured-refused {c} k = geometry-refused kind p l r n c (sym (ap answer_refusal k) ∙ e)
-
-  pub measured-accepted : a ≡ answer.Done → kind_refusal kind p l r n ≡ 0
-  measured-accepted k = sym e ∙ ap answer_refusal k
-
-  pub measured-fits : {x : Shape} → a ≡ answer.Done → 0 < l → geometry_of n (measured.Fits x) ≡ geometry kind p l l n
-      → geometry_of n (measured.Fits x) ≡ geometry kind p l r n
-  measured-fits k h g =
-      let z = measured-accepted k in
-      g ∙ geometry-fits kind p l l n (same_length kind p l r n z) h ∙ sym (geometry-fits kind p l r n z h)
-
 -- ---- the shape, row by row
 
 -- l bytes at a place, where k counts the blocks of `to` bytes past those of `from` bytes
@@ -183,25 +114,25 @@ placed-counted at l from to n h eb ec ed =
 module _ (kind : Kind) (p l n : ℕ) (e : kind_refusal kind p l l n ≡ 0) (h : 0 < l) where
   row_fits : {x : Shape} (at from to after : ℕ) → x ≡ placed at l from to after
       → stands_on kind p l n ≡ at → exponent kind p l n ≡ blocks to - blocks from → length_after kind l n ≡ after
-      → geometry_of n (measured.Fits x) ≡ geometry kind p l l n
+      → geometry_of n (Ok x) ≡ geometry kind p l l n
   row_fits at from to after ex es ek en = rw (ex, geometry-fits kind p l l n e h, es, ek, en)
 
-  pub row-change : {x : Shape} → kind ≡ Change → x ≡ placed p l (p + l) n n → geometry_of n (measured.Fits x) ≡ geometry kind p l l n
+  pub row-change : {x : Shape} → kind ≡ Change → x ≡ placed p l (p + l) n n → geometry_of n (Ok x) ≡ geometry kind p l l n
   unfolding stands_on exponent length_after
   row-change k ex = row_fits p (p + l) n n ex (rw k) (rw k (omega (arith, blocks-value n, blocks-value (p + l)))) (rw k)
 
-  pub row-append : {x : Shape} → kind ≡ Append → x ≡ placed n l n (n + l) (n + l) → geometry_of n (measured.Fits x) ≡ geometry kind p l l n
+  pub row-append : {x : Shape} → kind ≡ Append → x ≡ placed n l n (n + l) (n + l) → geometry_of n (Ok x) ≡ geometry kind p l l n
   unfolding stands_on exponent length_after
   row-append k ex = row_fits n n (n + l) (n + l) ex (rw k) (rw k) (rw k)
 
-  pub row-prepend : {x : Shape} → kind ≡ Prepend → x ≡ placed 0 l 0 n (n + l) → geometry_of n (measured.Fits x) ≡ geometry kind p l l n
+  pub row-prepend : {x : Shape} → kind ≡ Prepend → x ≡ placed 0 l 0 n (n + l) → geometry_of n (Ok x) ≡ geometry kind p l l n
   unfolding stands_on exponent length_after
   row-prepend k ex = row_fits 0 0 n (n + l) ex (rw k) (rw k (omega (arith, blocks-value 0))) (rw k)
 
-  pub row_drop : {x : Shape} → kind ≡ DropFront → x ≡ placed 0 l l n (n - l) → geometry_of n (measured.Fits x) ≡ geometry kind p l l n
+  pub row_drop : {x : Shape} → kind ≡ DropFront → x ≡ placed 0 l l n (n - l) → geometry_of n (Ok x) ≡ geometry kind p l l n
   unfolding stands_on exponent length_after touched
   row_drop k ex = row_fits 0 l n (n - l) ex (rw k) (rw k (omega (arith, blocks-value n, blocks-value l))) (rw k)
 
-  pub row_cut : {x : Shape} → kind ≡ CutTail → x ≡ placed (n - l) l (n - l) n (n - l) → geometry_of n (measured.Fits x) ≡ geometry kind p l l n
+  pub row_cut : {x : Shape} → kind ≡ CutTail → x ≡ placed (n - l) l (n - l) n (n - l) → geometry_of n (Ok x) ≡ geometry kind p l l n
   unfolding stands_on exponent length_after
   row_cut k ex = row_fits (n - l) (n - l) n (n - l) ex (rw k) (rw k) (rw k)

@@ -1,23 +1,22 @@
--- The slip's fields in its bytes: where each stands, that what is written is read back, and opening's answers, one law for each return.
+-- The slip's fields in its bytes: where each stands, that what is written is read back, and the fields of an opened slip.
 -- They rest on the field's laws of numbers as bytes.
-use mathlib.Core.Path.{◌≡◌, refl, sym, ap, ap₂, ◌∙◌}
+use mathlib.Core.Path.{◌≡◌, sym, ap, ap₂, ◌∙◌}
 use mathlib.Core.List.{List, ◌++◌, append_assoc}
-use Prim.Native.Nat.{ℕ, ◌+◌, ◌*◌, ◌/◌, ◌%◌, ◌^◌, ◌<◌, ◌≤◌}
+use Prim.Native.Nat.{ℕ, ◌+◌, ◌*◌, ◌/◌, ◌%◌, ◌^◌, ◌<◌}
 use native.Mathlib.Nat.{mod-eq_of_lt}
 use native.Mathlib.Omega.{arith}
 use lib.ListN.{length}
 use lib.Seq.{sets}
 use lib.Arith.{digits_lt}
 use lib.Pow.{high, low, shr-shr}
-use borrow.Author.Tests.{ne_eqb, lt-ltb, le-ltb}
 use Rattle.refusals.specs.Refusals.{first}
-use Rattle.refusals.proofs.Laws.{first_none, first_here, first_later, differ, agree}
+use Rattle.refusals.proofs.Laws.{first_none, first_later, agree}
 use Rattle.field.specs.declared.blocks.Block.{Block}
-use Rattle.field.specs.Field.{number, bytes, value, block, Small, max_bytes}
+use Rattle.field.specs.Field.{number, bytes, value, block, Small}
 use Rattle.field.proofs.Values.{value-lt, value-small, value-block}
 use Rattle.field.proofs.Bytes.{number_lt, number-split, number-bytes, length-bytes, bytes-append}
 use Rattle.file.specs.Slips.{slip_value, packed_slip, slip_version, slip_length, slip_arm, slip_number, slip_tag}
-use Rattle.file.specs.Slips.{slip_bytes, open_causes, SlipFields, unopened, opened_with, opening, check_refusal}
+use Rattle.file.specs.Slips.{slip_bytes, open_causes, SlipFields, opened_with, opening}
 use Rattle.field.proofs.Stores.{stored-none, stored_next, stored-all}
 
 -- ---- the fields of a number of 36 bytes
@@ -53,8 +52,8 @@ parts slip head arm seal tag la ls lt e =
     }
 
 -- where each field stands: eight bytes of version and length, four of the arm, eight of the seal number, sixteen of the tag
-pub slip-parts : (slip : List ℕ) → Parts slip (number slip 0 8) (number slip 8 4) (number slip 12 8) (number slip 20 16)
-slip-parts slip =
+pub slip_parts : (slip : List ℕ) → Parts slip (number slip 0 8) (number slip 8 4) (number slip 12 8) (number slip 20 16)
+slip_parts slip =
     parts slip (number slip 0 8) (number slip 8 4) (number slip 12 8) (number slip 20 16)
     (number_lt slip 8 4) (number_lt slip 12 8) (number_lt slip 20 16)
     (number-split slip 0 20 16
@@ -63,9 +62,9 @@ slip-parts slip =
 
 -- ---- what is written is read back
 
-pub length-slip : (n arm seal tag : ℕ) → length (packed_slip n arm seal tag) ≡ 36
+pub length_slip : (n arm seal tag : ℕ) → length (packed_slip n arm seal tag) ≡ 36
 unfolding packed_slip
-length-slip n arm seal tag = length-bytes 36 _
+length_slip n arm seal tag = length-bytes 36 _
 
 -- the fields of a written slip are those written, and its version is 1
 pub record ReadBack (slip : List ℕ) (n arm seal tag : ℕ) : Type 0 where
@@ -88,7 +87,7 @@ slip-back n arm seal tag ln la ls lt =
     let slip = packed_slip n arm seal tag in
     let p = parts slip (1 * 2 ^ 61 + n) arm seal tag la ls lt (number-bytes 36 _ ∙ mod-eq_of_lt (slip-lt n arm seal tag ln la ls lt)) in
     record {
-      size = length-slip n arm seal tag;
+      size = length_slip n arm seal tag;
       version = p.version ∙ high 1 61 ln;
       length_is = p.length_is ∙ low 1 61 ln;
       arm_is = p.arm_is;
@@ -126,24 +125,7 @@ slip-stored out n arm seal tag l la ls small ea eb ec ed ee =
 
 -- ---- opening
 
--- a slip that is refused has no fields
-opened-refused : (r : ℕ) (slip : List ℕ) → (r ≡ 0 → ⊥) → unopened r ≡ opened_with r slip
-unfolding opened_with
-opened-refused r slip z = simp (ne_eqb _ _ z)
-
 module _ (slip : List ℕ) where
-  pub open_size : (length slip ≡ slip_bytes → ⊥) → unopened 7 ≡ opening slip
-  unfolding opening open_causes
-  open_size x = opened-refused 7 slip (λ z. omega arith) ∙ ap (λ (r : ℕ). opened_with r slip) (first_here _ _ _ (differ x))
-
-  -- head is the first word
-  pub open_version : {head : ℕ} → length slip ≡ slip_bytes → head ≡ number slip 0 8 → (head / 2 ^ 61 ≡ 1 → ⊥) → unopened 8 ≡ opening slip
-  unfolding opening open_causes
-  open_version {head} x e y =
-      let z : slip_version slip ≡ 1 → ⊥ = λ q. y (ap (λ (w : ℕ). w / 2 ^ 61) e ∙ sym (slip-parts slip).version ∙ q) in
-      opened-refused 8 slip (λ z. omega arith)
-      ∙ ap (λ (r : ℕ). opened_with r slip) (first_later _ _ _ (agree x) (first_here _ _ _ (differ z)))
-
   -- hi and lo are the words of the tag, and tag its block
   pub open_done : {head arm seal hi lo : ℕ} {tag : Block} → length slip ≡ slip_bytes → head ≡ number slip 0 8 → head / 2 ^ 61 ≡ 1
       → arm ≡ number slip 8 4 → seal ≡ number slip 12 8 → hi ≡ number slip 20 8 → lo ≡ number slip 28 8
@@ -151,7 +133,7 @@ module _ (slip : List ℕ) where
       → ◌≡◌ {A = SlipFields} (record { refusal = 0; n = head % 2 ^ 61; arm = arm; number = seal; tag = value tag }) (opening slip)
   unfolding opening open_causes opened_with
   open_done {head} {arm} {seal} {hi} {lo} {tag} x e y ea es eh el et =
-      let p = slip-parts slip in
+      let p = slip_parts slip in
       let z : slip_version slip ≡ 1 = p.version ∙ ap (λ (w : ℕ). w / 2 ^ 61) (sym e) ∙ y in
       let whole : tag ≡ block (number slip 20 16) =
       et ∙ ap₂ (λ (u v : ℕ). block (u * 2 ^ 64 + v)) eh el ∙ ap block (sym (number-split slip 20 8 8))
@@ -166,12 +148,3 @@ module _ (slip : List ℕ) where
         tag = t i;
       })
       ∙ ap (λ (r : ℕ). opened_with r slip) opens
-
-  -- for a state of n bytes
-  pub open_long : (n : ℕ) → max_bytes < n → unopened 2 ≡ opened_with (check_refusal n slip) slip
-  unfolding check_refusal
-  open_long n h = opened-refused 2 slip (λ z. omega arith) ∙ ap (λ (r : ℕ). opened_with r slip) (first_here _ _ _ (lt-ltb _ _ h))
-
-  pub open_short : (n : ℕ) {x : SlipFields} → n ≤ max_bytes → x ≡ opening slip → x ≡ opened_with (check_refusal n slip) slip
-  unfolding check_refusal opening
-  open_short n h e = e ∙ ap (λ (r : ℕ). opened_with r slip) (first_later _ _ _ (le-ltb _ _ h) refl)

@@ -22,12 +22,12 @@ pub enum Cause {
     SlipVersion,
 }
 
-impl Cause {
-    // Document 01's number of a cause. It serves the layers above.
-    pub fn number(self) -> u64
-        ensures { result ≡ cause_number self }
-    {
-        match self {
+// Document 01's number of a cause. It serves the layers above.
+impl From<Cause> for u64 {
+    ghost from_gives = { λ cause n. n ≡ cause_number cause };
+
+    fn from(cause: Cause) -> u64 {
+        match cause {
             Cause::KeyLength => 1,
             Cause::TooLong => 2,
             Cause::OutOfFile => 3,
@@ -38,11 +38,4 @@ impl Cause {
             Cause::SlipVersion => 8,
         }
     }
-}
-
-// What a call or a test answers that hands back no value.
-#[derive(Clone, Copy)]
-pub enum Answer {
-    Done,
-    Refused(Cause),
 }

@@ -1,12 +1,14 @@
 // What an edit does to lengths: its refusal, or the blocks it touches, the power its sum takes and the new length. No byte is looked at.
-ghost use Rattle.std.specs.Prelude.{◌≡◌, [], ◌∷◌, ◌+◌, ◌-◌, ◌≤◌, ◌<◌, ◌%◌, ltb};
+#![tactic(auto, using(crate::proofs::ShapeLaws::cause_pos, crate::proofs::ShapeLaws::same_length), unfolding(refusals::specs::Refusals::first, crate::specs::Edits::kind_causes, crate::specs::Edits::kind_refusal, crate::specs::Edits::geometry))]
+
+ghost use Rattle.std.specs.Prelude.{◌≡◌, Ok, [], ◌∷◌, ◌+◌, ◌-◌, ◌≤◌, ◌<◌, ◌%◌, ltb};
 ghost use Rattle.field.specs.Field;
 ghost use Rattle.field.specs.Field.{max_bytes};
 ghost use Rattle.refusals.specs.Refusals.{first};
 ghost use Rattle.file.specs.Edits.{kind_refusal, touched, geometry};
 ghost use Rattle.file.specs.Clauses.{answer_refusal, geometry_of};
 
-use super::causes::{Answer, Cause};
+use super::causes::Cause;
 use field::hashing::MAX_BYTES;
 use field::summing::blocks;
 
@@ -30,92 +32,65 @@ pub struct Shape {
     pub n: u64,
 }
 
-#[derive(Clone, Copy)]
-pub enum Measured {
-    Refused(Cause),
-    Fits(Shape),
-}
-
 // What an edit of a file of n bytes does to lengths: l bytes are given, of a change at p, with r new ones. One of no bytes does nothing.
 // It serves the layers above.
-pub fn measure(kind: Kind, p: u64, l: u64, r: u64, n: u64) -> Measured
+pub fn measure(kind: Kind, p: u64, l: u64, r: u64, n: u64) -> Result<Shape, Cause>
     ensures { geometry_of n result ≡ geometry kind p l r n }
 {
-    let answer = refusal(kind, p, l, r, n);
-    if let Answer::Refused(cause) = answer {
-        return Measured::Refused(cause);
-    }
+    refusal(kind, p, l, r, n)?;
     if l == 0 {
-        return Measured::Fits(Shape {
+        return Ok(Shape {
             lead: 0,
             q: 0,
             k: 0,
             n,
         });
     }
-    Measured::Fits(row(kind, p, l, n))
+    Ok(row(kind, p, l, n))
 }
 
-// The refusal of an edit, or Done: a length that passes the most before all else, then the kind's own in document 01's order.
-fn refusal(kind: Kind, p: u64, l: u64, r: u64, n: u64) -> Answer
+// The refusal of an edit, if any: a length that passes the most before all else, then the kind's own in document 01's order.
+fn refusal(kind: Kind, p: u64, l: u64, r: u64, n: u64) -> Result<(), Cause>
     ensures { answer_refusal result ≡ kind_refusal kind p l r n }
 {
     if n > MAX_BYTES {
-        return Answer::Refused(Cause::TooLong);
+        return Err(Cause::TooLong);
     }
     match kind {
-        Kind::Change => {
-            if l != r {
-                return Answer::Refused(Cause::UnequalPair);
-            }
-            within(p, l, n)
-        }
-        Kind::Append => room(l, n),
-        Kind::Prepend => {
-            if l % 16 != 0 {
-                return Answer::Refused(Cause::BrokenBlock);
-            }
-            room(l, n)
-        }
-        Kind::DropFront => {
-            if l % 16 != 0 {
-                return Answer::Refused(Cause::BrokenBlock);
-            }
-            within(0, l, n)
-        }
-        Kind::CutTail => within(0, l, n),
+        Kind::Change if l != r => Err(Cause::UnequalPair),
+        Kind::Prepend | Kind::DropFront if l % 16 != 0 => Err(Cause::BrokenBlock),
+        Kind::Change => within(p, l, n),
+        Kind::Append | Kind::Prepend => room(l, n),
+        Kind::DropFront | Kind::CutTail => within(0, l, n),
     }
 }
 
 // Whether l bytes at p lie in a file of n.
-fn within(p: u64, l: u64, n: u64) -> Answer
+fn within(p: u64, l: u64, n: u64) -> Result<(), Cause>
     ensures { answer_refusal result ≡ first ((ltb n (p + l), 3) ∷ []) }
 {
-    if n < p {
-        return Answer::Refused(Cause::OutOfFile);
+    if n < p || n - p < l {
+        return Err(Cause::OutOfFile);
     }
-    if n - p < l {
-        return Answer::Refused(Cause::OutOfFile);
-    }
-    Answer::Done
+    Ok(())
 }
 
 // Whether a file of n bytes has room for l more.
-fn room(l: u64, n: u64) -> Answer
+fn room(l: u64, n: u64) -> Result<(), Cause>
     requires { n ≤ max_bytes }
     ensures { answer_refusal result ≡ first ((ltb max_bytes (n + l), 2) ∷ []) }
 {
     if MAX_BYTES - n < l {
-        return Answer::Refused(Cause::TooLong);
+        return Err(Cause::TooLong);
     }
-    Answer::Done
+    Ok(())
 }
 
 // The shape of an accepted edit of at least one byte: where its bytes stand, the two lengths between which k counts blocks, and the
 // length afterwards. Document 01's k of a change, m - 1 - e, is the blocks of the file past those of its first p + l bytes.
 fn row(kind: Kind, p: u64, l: u64, n: u64) -> Shape
     requires { (kind_refusal kind p l l n ≡ 0) × (0 < l) }
-    ensures { geometry_of n (Measured.Fits result) ≡ geometry kind p l l n }
+    ensures { geometry_of n (Ok result) ≡ geometry kind p l l n }
 {
     match kind {
         Kind::Change => placed(p, l, p + l, n, n),

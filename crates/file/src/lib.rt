@@ -9,8 +9,8 @@ mod sealing;
 mod slips;
 mod states;
 
-pub use causes::{Answer, Cause};
-pub use geometry::{Kind, Measured, Shape, measure};
-pub use sealing::{Checked, Sealed, Verdict};
+pub use causes::Cause;
+pub use geometry::{Kind, Shape, measure};
+pub use sealing::Verdict;
 pub use slips::SLIP_BYTES;
-pub use states::{Answered, Outcome, State};
+pub use states::{Answered, State};

@@ -1,17 +1,19 @@
 // Seal and check.
+#![tactic(auto, using(crate::proofs::ShapeLaws::cause_pos, crate::proofs::SlipLaws::length_slip), unfolding(refusals::specs::Refusals::first, crate::specs::Slips::seal_refusal, crate::specs::Slips::sealed, crate::specs::Slips::sealed_next, crate::specs::Slips::numbered, crate::specs::Slips::by_its_number, crate::specs::Slips::check_refusal, crate::specs::Slips::opened_with, crate::specs::Slips::fitting, crate::specs::Slips::genuine, crate::specs::Slips::checked))]
+
 ghost use Rattle.std.specs.Prelude.{◌≡◌, ◌≤◌};
 ghost use Rattle.field.specs.Field.{max_bytes};
-ghost use Rattle.file.specs.declared.sealing.Verdict.TheVariants.{NotGenuine};
 ghost use Rattle.file.specs.Slips.{seal_refusal, sealed, by_its_number, checked, state_tag};
-ghost use Rattle.file.specs.Clauses.{answer_refusal, seal_answer, check_answer, opened_of};
+ghost use Rattle.file.specs.Clauses.{answer_refusal, seal_answer, check_answer};
 
-use super::causes::{Answer, Cause};
-use super::slips::{Fields, Opened, SLIP_BYTES, open_for, write};
+use super::causes::Cause;
+use super::slips::{Fields, SLIP_BYTES, open_for, packed};
 use super::states::State;
 use field::Block;
 use field::hashing::MAX_BYTES;
 use field::packing::store;
 use gcm::tags::{same, tag};
+use std::cmp::Ordering;
 
 // What a check finds of a slip: it is not genuine; or it is, and its seal number is the last used one, a smaller or a larger. Only Current is
 // the slip of the newest seal: who takes every genuine slip takes an old card too.
@@ -27,89 +29,56 @@ pub enum Verdict {
     Ahead,
 }
 
-// What check answers.
-#[derive(Clone, Copy)]
-pub enum Checked {
-    Found(Verdict),
-    Refused(Cause),
-}
-
-// A state beside what seal answered.
-#[derive(Clone, Copy)]
-pub struct Sealed {
-    pub state: State,
-    pub answer: Answer,
-}
-
 impl State {
     // Seals the file: the last used number rises by one, and the slip gets the new one and the file's tag under it. Refused, in this
     // order, where the state's length passes 2^61 - 1, where the slip is not 36 bytes and where no number is left; state and slip then
     // stay as they were.
-    pub fn seal(mut self, slip: &mut [u8]) -> Sealed
-        ensures { seal_answer result slip.new ≡ sealed self slip.old }
+    pub fn seal(&mut self, slip: &mut [u8]) -> Result<(), Cause>
+        ensures { seal_answer self.new result slip.new ≡ sealed self.old slip.old }
     {
-        let answer = seal_refusal(self.n, self.last, slip);
-        if let Answer::Refused(_) = answer {
-            return Sealed {
-                state: self,
-                answer,
-            };
-        }
+        seal_refusal(self.n, self.last, slip)?;
         let number = self.last + 1;
         let tag = self.tag_under(self.arm, number);
-        write(
-            slip,
-            Fields {
-                length: self.n,
-                arm: self.arm,
-                number,
-                tag,
-            },
-        );
+        slip.copy_from_slice(&packed(Fields {
+            length: self.n,
+            arm: self.arm,
+            number,
+            tag,
+        }));
         self.last = number;
-        Sealed {
-            state: self,
-            answer,
-        }
+        Ok(())
     }
 
     // Whether a slip is of the file: its length and arm are the state's, and its tag is the file's under its own nonce; and if so, whether it is the
     // newest. Refused, in this order, where the state's length passes 2^61 - 1, where the slip is not 36 bytes and where its version is not
     // 1. The tags are compared by one test of all their bits.
-    pub fn check(self, slip: &[u8]) -> Checked
+    pub fn check(self, slip: &[u8]) -> Result<Verdict, Cause>
         ensures { check_answer result ≡ checked self slip.now }
     {
-        let o = open_for(self.n, slip);
-        let Opened::Slip(f) = o else {
-            return refusal(o);
+        // The fields by let .. else, as document 01 has it, and not by `?`.
+        let opened = open_for(self.n, slip);
+        let Ok(f) = opened else {
+            return opened.and(Ok(Verdict::NotGenuine));
         };
-        if f.length != self.n {
-            return Checked::Found(Verdict::NotGenuine);
+        if f.length != self.n
+            || f.arm != self.arm
+            || !same(f.tag, self.tag_under(f.arm, f.number))
+        {
+            return Ok(Verdict::NotGenuine);
         }
-        if f.arm != self.arm {
-            return Checked::Found(Verdict::NotGenuine);
-        }
-        let given = f.tag;
-        if same(given, self.tag_under(f.arm, f.number)) {
-            Checked::Found(by_number(self.last, f.number))
-        } else {
-            Checked::Found(Verdict::NotGenuine)
-        }
+        Ok(by_number(self.last, f.number))
     }
 
     // The state's tag under the nonce of an arm and a seal number, most significant byte first. The requires: the number of the file's
     // bits fits a word.
-    fn tag_under(self, arm: u32, number: u64) -> Block
-        requires { self.n ≤ max_bytes }
-        ensures { result ≡ state_tag self arm number }
+    fn tag_under(&self, arm: u32, number: u64) -> Block
+        requires { self.now.n ≤ max_bytes }
+        ensures { result ≡ state_tag self.now arm number }
     {
         let mut nonce = [0u8; 12];
         store(&mut nonce, 0, 4, arm as u64);
         store(&mut nonce, 4, 8, number);
-        let key = self.key;
-        let h = self.h;
-        let s = self.s;
-        tag(key, h, s, self.n, &nonce)
+        tag(self.key, self.h, self.s, self.n, &nonce)
     }
 }
 
@@ -117,37 +86,25 @@ impl State {
 fn by_number(last: u64, number: u64) -> Verdict
     ensures { result ≡ by_its_number last number }
 {
-    if number == last {
-        return Verdict::Current;
-    }
-    if number < last {
-        return Verdict::Stale;
-    }
-    Verdict::Ahead
-}
-
-// The refusal of a slip that did not open.
-fn refusal(o: Opened) -> Checked
-    ensures { check_answer result ≡ record { refusal = (opened_of o).refusal; verdict = NotGenuine } }
-{
-    match o {
-        Opened::Refused(cause) => Checked::Refused(cause),
-        Opened::Slip(_) => Checked::Found(Verdict::NotGenuine),
+    match number.cmp(&last) {
+        Ordering::Equal => Verdict::Current,
+        Ordering::Less => Verdict::Stale,
+        Ordering::Greater => Verdict::Ahead,
     }
 }
 
-// The refusal of a seal, or Done, of a state of n bytes and a last used number.
-fn seal_refusal(n: u64, last: u64, slip: &[u8]) -> Answer
+// The refusal of a seal, if any, of a state of n bytes and a last used number.
+fn seal_refusal(n: u64, last: u64, slip: &[u8]) -> Result<(), Cause>
     ensures { answer_refusal result ≡ seal_refusal n last slip.now }
 {
     if n > MAX_BYTES {
-        return Answer::Refused(Cause::TooLong);
+        return Err(Cause::TooLong);
     }
     if slip.len() != SLIP_BYTES {
-        return Answer::Refused(Cause::SlipLength);
+        return Err(Cause::SlipLength);
     }
     if last == u64::MAX {
-        return Answer::Refused(Cause::NumbersUsed);
+        return Err(Cause::NumbersUsed);
     }
-    Answer::Done
+    Ok(())
 }

@@ -1,7 +1,9 @@
 // The slip: 36 bytes that say which file an arm held.
-ghost use Rattle.std.specs.Prelude.{◌≡◌, ◌<◌, ◌^◌, length};
+#![tactic(auto, using(crate::proofs::SlipLaws::slip_parts, field::proofs::Bytes::number_lt), unfolding(refusals::specs::Refusals::first, crate::specs::Slips::opened_with, crate::specs::Slips::opening, crate::specs::Slips::open_causes, crate::specs::Slips::check_refusal))]
+
+ghost use Rattle.std.specs.Prelude.{◌≡◌, ◌<◌, ◌^◌};
 ghost use Rattle.field.specs.Field.{value};
-ghost use Rattle.file.specs.Slips.{packed_slip, opening, opened_with, check_refusal, slip_bytes};
+ghost use Rattle.file.specs.Slips.{packed_slip, opening, opened_with, check_refusal};
 ghost use Rattle.file.specs.Clauses.{opened_of};
 
 use super::causes::Cause;
@@ -24,38 +26,32 @@ pub struct Fields {
     pub tag: Block,
 }
 
-#[derive(Clone, Copy)]
-pub enum Opened {
-    Slip(Fields),
-    Refused(Cause),
-}
-
 // Opens a slip for a state of n bytes: refused with 2 where n passes 2^61 - 1 before all else, then as `open` refuses.
-pub fn open_for(n: u64, slip: &[u8]) -> Opened
+pub fn open_for(n: u64, slip: &[u8]) -> Result<Fields, Cause>
     ensures { opened_of result ≡ opened_with (check_refusal n slip.now) slip.now }
 {
     if n > MAX_BYTES {
-        return Opened::Refused(Cause::TooLong);
+        return Err(Cause::TooLong);
     }
     open(slip)
 }
 
 // Opens a slip into its fields. Refused, in this order, where it is not 36 bytes and where its version is not 1.
-fn open(slip: &[u8]) -> Opened
+fn open(slip: &[u8]) -> Result<Fields, Cause>
     ensures { opened_of result ≡ opening slip.now }
 {
     if slip.len() != SLIP_BYTES {
-        return Opened::Refused(Cause::SlipLength);
+        return Err(Cause::SlipLength);
     }
     let head = number_at(0, slip, 0, 8);
     let version = head / VERSION;
     if version != 1 {
-        return Opened::Refused(Cause::SlipVersion);
+        return Err(Cause::SlipVersion);
     }
     let arm = number_at(0, slip, 8, 4) as u32;
     let number = number_at(0, slip, 12, 8);
     let tag = Block::from_words(number_at(0, slip, 20, 8), number_at(0, slip, 28, 8));
-    Opened::Slip(Fields {
+    Ok(Fields {
         length: head % VERSION,
         arm,
         number,
@@ -63,15 +59,16 @@ fn open(slip: &[u8]) -> Opened
     })
 }
 
-// Writes a slip of version 1. The requires: the slip has room for just these, and the length for its 61 bits.
-pub fn write(out: &mut [u8], f: Fields)
-    requires { (length out.old ≡ slip_bytes) × (f.length < 2 ^ 61) }
-    ensures { out.new ≡ packed_slip f.length f.arm f.number (value f.tag) }
+// A slip of version 1. The requires: the length has room in its 61 bits.
+pub fn packed(f: Fields) -> [u8; SLIP_BYTES]
+    requires { f.length < 2 ^ 61 }
+    ensures { result ≡ packed_slip f.length f.arm f.number (value f.tag) }
 {
-    store(out, 0, 8, VERSION + f.length);
-    store(out, 8, 4, f.arm as u64);
-    store(out, 12, 8, f.number);
-    let tag = f.tag;
-    store(out, 20, 8, tag.hi);
-    store(out, 28, 8, tag.lo);
+    let mut slip = [0u8; SLIP_BYTES];
+    store(&mut slip, 0, 8, VERSION + f.length);
+    store(&mut slip, 8, 4, f.arm as u64);
+    store(&mut slip, 12, 8, f.number);
+    store(&mut slip, 20, 8, f.tag.hi);
+    store(&mut slip, 28, 8, f.tag.lo);
+    slip
 }

@@ -1,10 +1,13 @@
 // The state that the controller holds in place of the file.
-ghost use Rattle.std.specs.Prelude.{◌≡◌};
+#![tactic(auto, using(crate::proofs::ShapeLaws::cause_pos), unfolding(refusals::specs::Refusals::first, crate::specs::States::begin_refusal, crate::specs::States::begun_with, crate::specs::States::state_of, crate::specs::States::zero_state, crate::specs::States::started, crate::specs::States::read_file))]
+
+ghost use Rattle.std.specs.Prelude.{◌≡◌, ℕ};
+ghost use Rattle.field.specs.Field.{counted};
 ghost use Rattle.gcm.specs.Gcm.{hash_key};
-ghost use Rattle.file.specs.States.{accepted_with, refused_with, zero_state, state_of, begin_refusal, started, read_file};
+ghost use Rattle.file.specs.States.{refused_with, zero_state, state_of, begin_refusal, begun_with, started, read_file};
 ghost use Rattle.file.specs.Clauses.{cause_number, answer_refusal, state_answer};
 
-use super::causes::{Answer, Cause};
+use super::causes::Cause;
 use cipher::Key;
 use field::Block;
 use field::filling::blank_sum;
@@ -29,95 +32,88 @@ pub struct State {
     pub last: u64,
 }
 
-#[derive(Clone, Copy)]
-pub enum Outcome {
-    // Accepted; of an edit and of a start, with its count of products.
-    Done(Count),
-    Refused(Cause),
-}
-
-// A state beside what the call answered.
+// What start and read give: a state in either case, since document 01 has a refused one be all zeros, and the count of products or the refusal.
 #[derive(Clone, Copy)]
 pub struct Answered {
     pub state: State,
-    pub outcome: Outcome,
+    pub outcome: Result<Count, Cause>,
 }
 
 impl State {
     // The state of n fill bytes, and the count of the products of its sum. Refused with 1 where the key is not 16 bytes, with 2 where n passes
     // 2^61 - 1, and then all zeros.
     pub fn start(key: &[u8], arm: u32, last: u64, n: u64, fill: u8) -> Answered
-        ensures { state_answer result ≡ started (record { key = key.entry.now; arm = arm; last = last; n = n; fill = fill }) }
+        ensures { state_answer result.state result.outcome ≡ started (record { key = key.entry.now; arm = arm; last = last; n = n; fill = fill }) }
     {
-        let answer = begin_refusal(key, n);
-        if let Answer::Refused(cause) = answer {
-            return refused(cause);
-        }
-        let k = Key::from_bytes(key);
-        let h = hash_key(k);
-        let blank = blank_sum(h, fill, n, Count::none());
-        begun(k, h, blank, n, arm, last)
+        begun(key, arm, last, n, |h| blank_sum(h, fill, n, Count::none()))
     }
 
     // The state of a lent file. Refused with 1 where the key is not 16 bytes, with 2 where the file passes 2^61 - 1 bytes, and then all zeros.
     pub fn read(key: &[u8], arm: u32, last: u64, file: &[u8]) -> Answered
-        ensures { state_answer result ≡ read_file (record { key = key.entry.now; arm = arm; last = last; file = file.now }) }
+        ensures { state_answer result.state result.outcome ≡ read_file (record { key = key.entry.now; arm = arm; last = last; file = file.now }) }
     {
         let n = file.len() as u64;
-        let answer = begin_refusal(key, n);
-        if let Answer::Refused(cause) = answer {
-            return refused(cause);
-        }
-        let k = Key::from_bytes(key);
-        let h = hash_key(k);
-        let value = sum(h, file);
-        let count = Count::none();
-        begun(k, h, Counted { value, count }, n, arm, last)
+        begun(key, arm, last, n, |h| {
+            let value = sum(h, file);
+            let count = Count::none();
+            Counted { value, count }
+        })
     }
 }
 
-// The refusal of start and read, or Done, for a file of n bytes.
-fn begin_refusal(key: &[u8], n: u64) -> Answer
-    ensures { answer_refusal result ≡ begin_refusal key.now n }
+// A start or read of a file of n bytes: refused, or the state whose sum is what `summed` makes of the hash key, with the count of its products. The
+// ensures: where that can only be x with the count c.
+fn begun<F: FnOnce(Block) -> Counted>(
+    key: &[u8],
+    arm: u32,
+    last: u64,
+    n: u64,
+    summed: F,
+) -> Answered
+    requires { F.IsAlwaysCallable summed }
+    ensures { (x : Block) (c : ℕ) → ((s : Counted) → F.post summed (hash_key key.now) s → s ≡ counted x c)
+        → state_answer result.state result.outcome ≡ begun_with (begin_refusal key.now n) (state_of key.now x n arm last) c }
 {
-    if !Key::fits(key) {
-        return Answer::Refused(Cause::KeyLength);
+    if let Err(cause) = begin_refusal(key, n) {
+        return refused(cause);
     }
-    if n > MAX_BYTES {
-        return Answer::Refused(Cause::TooLong);
-    }
-    Answer::Done
-}
-
-// An accepted start or read: the state of a key with its hash key, and of a file's sum and length; the count is of the sum's products.
-fn begun(key: Key, h: Block, sum: Counted, n: u64, arm: u32, last: u64) -> Answered
-    requires { h ≡ hash_key key.bytes }
-    ensures { state_answer result ≡ accepted_with (state_of key.bytes sum.value n arm last) sum.count.raised }
-{
-    let s = sum.value;
-    let count = sum.count;
+    let key = Key::from_bytes(key);
+    let h = hash_key(key);
+    let sum = summed(h);
     Answered {
         state: State {
             key,
             h,
             i: companion(h),
-            s,
+            s: sum.value,
             n,
             arm,
             last,
         },
-        outcome: Outcome::Done(count),
+        outcome: Ok(sum.count),
     }
+}
+
+// The refusal of start and read, if any, for a file of n bytes.
+fn begin_refusal(key: &[u8], n: u64) -> Result<(), Cause>
+    ensures { answer_refusal result ≡ begin_refusal key.now n }
+{
+    if !Key::fits(key) {
+        return Err(Cause::KeyLength);
+    }
+    if n > MAX_BYTES {
+        return Err(Cause::TooLong);
+    }
+    Ok(())
 }
 
 // What a refused start or read gives: the state of all zeros.
 fn refused(cause: Cause) -> Answered
-    ensures { state_answer result ≡ refused_with zero_state (cause_number cause) }
+    ensures { state_answer result.state result.outcome ≡ refused_with zero_state (cause_number cause) }
 {
-    let bytes = [0u8; 16];
     Answered {
         state: State {
-            key: Key { bytes },
+            key: Key { bytes: [0; 16] },
             h: Block::ZERO,
             i: Block::ZERO,
             s: Block::ZERO,
@@ -125,6 +121,6 @@ fn refused(cause: Cause) -> Answered
             arm: 0,
             last: 0,
         },
-        outcome: Outcome::Refused(cause),
+        outcome: Err(cause),
     }
 }

@@ -1,7 +1,7 @@
 -- Two tags compared: by their words, whose differences, joined and folded, are 0 exactly where the blocks are one number; and by their bytes, which
 -- are the same exactly where the blocks are. They rest on lib.Bits and on the field's laws of blocks and bytes.
 use mathlib.Core.Path.{◌≡◌, refl, sym, ap, ap₂, ◌∙◌}
-use mathlib.Core.Bool.{Bool, true, false, ◌&&◌, false≢true}
+use mathlib.Core.Bool.{Bool, true, false, false≢true}
 use mathlib.Core.Logic.{◌⊎◌, inl, inr}
 use mathlib.Core.List.{List, [], ◌∷◌}
 use Prim.Native.Nat.{ℕ, ◌/◌, ◌%◌, ◌<◌}
@@ -10,6 +10,7 @@ use lib.Bits.{bit_or, bit_xor, or_add_and, xor_add_and, and_le_l, and_le_r, xor_
 use lib.Dec.{eqb}
 use lib.ListN.{length, get_or}
 use borrow.Author.Tests.{eq-eqb, ne_eqb, eqb-true, eqb-false}
+use Rattle.std.proofs.lemmas.Bool.{false_from_ne_true, and_parts, cases_Bool}
 use Rattle.field.specs.declared.blocks.Block.{Block}
 use Rattle.field.specs.Field.{value, block, Small, block_at, bytes_of}
 use Rattle.field.proofs.Values.{block-value}
@@ -58,22 +59,13 @@ same_words a b p q =
 
 -- ---- by their bytes
 
-both : (x y : Bool) → x && y ≡ true → (x ≡ true) × (y ≡ true)
-both true y e = (refl, e)
-both false y e = absurd (false≢true e)
-
--- a test that can't hold doesn't
-pub never : (x : Bool) → (x ≡ true → ⊥) → x ≡ false
-never true h = absurd (h refl)
-never false h = refl
-
 pub equal_true : (s t : List ℕ) → equal s t ≡ true → s ≡ t
 unfolding equal
 equal_true [] [] e = refl
 equal_true [] (b ∷ t) e = absurd (false≢true e)
 equal_true (a ∷ s) [] e = absurd (false≢true e)
 equal_true (a ∷ s) (b ∷ t) e =
-    let p = both (eqb a b) (equal s t) e in
+    let p = and_parts (eqb a b) (equal s t) e in
     ap₂ (λ (x : ℕ) (l : List ℕ). x ∷ l) (eqb-true a b p.0) (equal_true s t p.1)
 
 pub equal-same : (s : List ℕ) → equal s s ≡ true
@@ -83,11 +75,11 @@ equal-same (a ∷ s) = rw (eq-eqb a a refl) (equal-same s)
 
 -- two lists are the same or not
 pub same_or_not : (s t : List ℕ) → (s ≡ t) ⊎ (s ≡ t → ⊥)
-same_or_not s t = split (equal s t) refl
+same_or_not s t = by (cases_Bool (equal s t))
   where
-    split : (b : Bool) → equal s t ≡ b → (s ≡ t) ⊎ (s ≡ t → ⊥)
-    split true e = inl (equal_true s t e)
-    split false e = inr (λ x. false≢true (sym e ∙ ap (equal s) (sym x) ∙ equal-same s))
+    by : (equal s t ≡ true) ⊎ (equal s t ≡ false) → (s ≡ t) ⊎ (s ≡ t → ⊥)
+    by (inl e) = inl (equal_true s t e)
+    by (inr e) = inr (λ x. false≢true (sym e ∙ ap (equal s) (sym x) ∙ equal-same s))
 
 -- sixteen bytes and a block's are the same exactly where they are one number
 equal-number : (t : List ℕ) (b : Block) → length t ≡ 16 → ((i : ℕ) → i < length t → get_or t i 0 < 256) → Small b
@@ -104,7 +96,7 @@ equal-number t b size bytes small = flag (eqb (value (block_at t 0)) (value b)) 
 
     flag : (x : Bool) → eqb (value (block_at t 0)) (value b) ≡ x → x ≡ equal t (bytes_of b)
     flag true e = sym (ap (equal t) (sym (same_block (eqb-true _ _ e))) ∙ equal-same t)
-    flag false e = sym (never _ (λ x. eqb-false _ _ e (same-value (equal_true t (bytes_of b) x))))
+    flag false e = sym (false_from_ne_true _ (λ x. eqb-false _ _ e (same-value (equal_true t (bytes_of b) x))))
 
 -- so code compares them: g is the given tag as a block, b the right one, whose bytes are u
 pub tag-fits_of : (t : List ℕ) (b : Block) {u : List ℕ} {g : Block} {r : Bool} → length t ≡ 16

@@ -82,10 +82,6 @@ pub counters_more : (icb : List ℕ) (first n : ℕ) → counters icb first n ++
 unfolding counters concatenated
 counters_more icb first n = refl
 
-pub counters-none : (icb : List ℕ) (first : ℕ) → counters icb first 0 ≡ []
-unfolding counters concatenated
-counters-none icb first = refl
-
 module _ (key icb : List ℕ) (first n : ℕ) where
   length_cipher : (i : ℕ) → length (bytes_of (CIPH key (CB icb (first + i)))) ≡ 16
   length_cipher i = length-block_bytes (CIPH key (CB icb (first + i)))
@@ -98,6 +94,21 @@ module _ (key icb : List ℕ) (first n : ℕ) where
   get_d_stream : (k : ℕ) → k < 16 * n → get_or (key_stream key icb first n) k 0 ≡ get_or (bytes_of (CIPH key (CB icb (first + k / 16)))) (k % 16) 0
   unfolding key_stream
   get_d_stream k l = get_d_concatenated _ length_cipher n k l
+
+-- its first n bytes are those of a longer one
+pub stream_begins : (key icb : List ℕ) (first n a b : ℕ) → n ≤ 16 * a → n ≤ 16 * b
+    → take n (key_stream key icb first a) ≡ take n (key_stream key icb first b)
+stream_begins key icb first n a b ha hb =
+    let s = key_stream key icb first a in
+    let t = key_stream key icb first b in
+    let size-s : length (take n s) ≡ n = length-take-le n s (omega (arith, length_stream key icb first a)) in
+    let size-t : length (take n t) ≡ n = length-take-le n t (omega (arith, length_stream key icb first b)) in
+    ext_get_or 0 _ _ (size-s ∙ sym size-t)
+    (λ k l.
+    let few : k < n = omega arith in
+    get_or-take n s k 0 few
+    ∙ get_d_stream key icb first a k (omega arith)
+    ∙ sym (get_or-take n t k 0 few ∙ get_d_stream key icb first b k (omega arith)))
 
 -- so code makes it: s are the counter blocks, and t, which are bytes, their ciphers
 pub stream_of : (key : List ℕ) (j : Block) (first n : ℕ) {rows : List (List ℕ)} {s t : List ℕ} → rows ≡ rows_of key

@@ -5,13 +5,14 @@ use mathlib.Core.List.{List}
 use Prim.Native.Nat.{ℕ}
 use native.Mathlib.Omega.{arith}
 use lib.ListN.{length}
+use Rattle.std.proofs.lemmas.Bool.{cases_eq}
 use Rattle.gcm.specs.Authenticated.{tag_bytes, tag_of_text, P, GCM_AD}
 use Rattle.gcm.specs.Answers.{gcm_refusal, EncryptAnswer, decrypted}
 use Rattle.gcm.specs.Clauses.{decrypt_result}
 use Rattle.gcm.specs.GcmMet.{Within, GcmMet}
 use Rattle.gcm.proofs.Refusals.{Accepted, gcm_accepts}
 use Rattle.gcm.proofs.TextLaws.{length-tag, lengths-supported}
-use Rattle.gcm.proofs.GcmTheorem.{zero_or_not, gcm_theorem}
+use Rattle.gcm.proofs.GcmTheorem.{gcm_theorem}
 
 -- ---- within the limits
 
@@ -55,7 +56,7 @@ module _ (key nonce a text out tag : List ℕ) where
   Kept = ((decrypted key nonce a text out tag).refusal ≢ 0) × ((decrypted key nonce a text out tag).out ≡ out)
 
   either : Released ⊎ Kept
-  either = by (zero_or_not (decrypted key nonce a text out tag).refusal)
+  either = by (cases_eq (decrypted key nonce a text out tag).refusal 0)
     where
       by : ((decrypted key nonce a text out tag).refusal ≡ 0) ⊎ ((decrypted key nonce a text out tag).refusal ≢ 0) → Released ⊎ Kept
       by (inl z) = inl (z, (gcm_theorem.exactly key nonce a text out tag z).1, gcm_theorem.released key nonce a text out tag z)

@@ -3,10 +3,12 @@
 use mathlib.Core.Path.{◌≡◌, refl, sym, ap, ap₂, ◌∙◌}
 use mathlib.Core.Bool.{true}
 use mathlib.Core.Logic.{◌≢◌, ◌⊎◌, inl, inr}
-use mathlib.Core.List.{List, [], ◌∷◌}
-use Prim.Native.Nat.{ℕ, zero, suc}
+use mathlib.Core.List.{List, []}
+use Prim.Native.Nat.{ℕ}
 use native.Mathlib.Omega.{arith}
 use lib.ListN.{length}
+use Rattle.std.proofs.lemmas.Bool.{cases_eq}
+use Rattle.std.proofs.lemmas.List.{nil_from_length}
 use Rattle.field.specs.Field.{bytes_of}
 use Rattle.gcm.specs.Gmac.{pad, gmac}
 use Rattle.gcm.specs.Authenticated.{turned, tag_of_text, GCM_AE, supported, P, GCM_AD}
@@ -31,11 +33,7 @@ unfolding turned
 turned-twice key iv x = GCTR-twice key _ x
 
 turned-nothing : (key iv : List ℕ) → turned key iv [] ≡ []
-turned-nothing key iv = none (turned key iv []) (length-turned key iv [])
-  where
-    none : (s : List ℕ) → length s ≡ 0 → s ≡ []
-    none [] e = refl
-    none (x ∷ s) e = absurd (omega arith)
+turned-nothing key iv = nil_from_length (turned key iv []) (length-turned key iv [])
 
 -- the lengths that are supported are those of what was turned too
 supported-turned : (key iv p a : List ℕ) → supported iv p a ≡ true → supported iv (turned key iv p) a ≡ true
@@ -43,11 +41,6 @@ unfolding supported
 supported-turned key iv p a s = rw (length-turned key iv p) s
 
 -- ---- the ways in which a call ends
-
--- a number is 0 or it is not
-pub zero_or_not : (n : ℕ) → (n ≡ 0) ⊎ (n ≢ 0)
-zero_or_not zero = inl refl
-zero_or_not (suc n) = inr (λ e. omega arith)
 
 -- the number of an answer, and its output
 encrypt_number : {x y : EncryptAnswer} → x ≡ y → x.refusal ≡ y.refusal
@@ -62,7 +55,7 @@ decrypt_out e = ap (λ (x : DecryptAnswer). x.out) e
 module _ (key nonce a text out tag : List ℕ) where
   -- what was encrypted was not refused for its lengths
   encrypted-zero : (encrypted key nonce a text out tag).refusal ≡ 0 → gcm_refusal key nonce a text out tag ≡ 0
-  encrypted-zero e = by (zero_or_not (gcm_refusal key nonce a text out tag))
+  encrypted-zero e = by (cases_eq (gcm_refusal key nonce a text out tag) 0)
     where
       by : (gcm_refusal key nonce a text out tag ≡ 0) ⊎ (gcm_refusal key nonce a text out tag ≢ 0) → gcm_refusal key nonce a text out tag ≡ 0
       by (inl z) = z
@@ -79,7 +72,7 @@ module _ (key nonce a text out tag : List ℕ) where
   Fits = (gcm_refusal key nonce a text out tag ≡ 0) × (tag ≡ tag_of_text key nonce text a)
 
   ways : Refused ⊎ (Wrong ⊎ Fits)
-  ways = by (zero_or_not (gcm_refusal key nonce a text out tag)) (same_or_not tag (tag_of_text key nonce text a))
+  ways = by (cases_eq (gcm_refusal key nonce a text out tag) 0) (same_or_not tag (tag_of_text key nonce text a))
     where
       by : (gcm_refusal key nonce a text out tag ≡ 0) ⊎ Refused → (tag ≡ tag_of_text key nonce text a) ⊎ (tag ≢ tag_of_text key nonce text a)
           → Refused ⊎ (Wrong ⊎ Fits)
@@ -142,7 +135,7 @@ tag-nothing key nonce a = ap (λ (c : List ℕ). tag_of_text key nonce c a) (tur
 
 gmac-text : (key nonce a tag : List ℕ)
     → encrypted key nonce a [] [] tag ≡ record { refusal = gmac_refusal key nonce a tag; out = []; tag = gmac_output key nonce a tag }
-gmac-text key nonce a tag = by (zero_or_not (gmac_refusal key nonce a tag))
+gmac-text key nonce a tag = by (cases_eq (gmac_refusal key nonce a tag) 0)
   where
     lengths : gcm_refusal key nonce a [] [] tag ≡ gmac_refusal key nonce a tag
     lengths = no_text key nonce a tag

@@ -1,21 +1,20 @@
 -- The refusals that lengths decide: forwards, past the causes of key and nonce; backwards, what holds where nothing is refused, and that
 -- nothing is where it holds. And that GMAC's are those of no text.
-use mathlib.Core.Path.{◌≡◌, refl, sym, ap, ◌∙◌}
-use mathlib.Core.Bool.{true, false, not}
+use mathlib.Core.Path.{◌≡◌, refl, sym, ap}
+use mathlib.Core.Bool.{true, false, not, false≢true}
 use mathlib.Core.List.{List, [], ◌∷◌}
 use Prim.Native.Nat.{ℕ, ◌<◌, ◌≤◌}
 use native.Mathlib.Omega.{arith}
 use lib.Dec.{eqb}
 use lib.ListN.{length}
 use borrow.Author.Tests.{ne_eqb, le-ltb, ltb-false, eqb-false, not-false}
+use Rattle.std.specs.Prelude.{Result, Ok, Err, IsErr}
 use Rattle.refusals.specs.Refusals.{first}
 use Rattle.refusals.proofs.Laws.{first_none, first_later, first_passed, agree, agreed}
 use Rattle.cipher.specs.Aes.{key_fits}
 use Rattle.field.specs.Field.{max_bytes}
 use Rattle.gcm.specs.declared.Cause.{Cause}
 use Rattle.gcm.specs.declared.Cause.TheVariants.{KeyLength, EmptyNonce, TagLength, TextLength, TooLong, TextTooLong, WrongTag}
-use Rattle.gcm.specs.declared.Answer.{Answer}
-use Rattle.gcm.specs.declared.Answer.TheVariants.{Done, Refused}
 use Rattle.gcm.specs.Answers.{max_text, gmac_refusal, gcm_refusal}
 use Rattle.gcm.specs.Clauses.{cause_number, answer_refusal, long_causes}
 
@@ -81,10 +80,7 @@ cause_pos TooLong = omega arith
 cause_pos TextTooLong = omega arith
 cause_pos WrongTag = omega arith
 
--- a refused answer tells a refusal
-pub refused-pos : {x : ℕ} {r : Answer} {c : Cause} → answer_refusal r ≡ x → r ≡ Refused c → x ≡ 0 → ⊥
-refused-pos {x} {r} {c} told e z = omega (arith, cause_pos c, ap answer_refusal (sym e) ∙ told ∙ z)
-
--- and one that is done none
-pub done_zero : {x : ℕ} {r : Answer} → answer_refusal r ≡ x → r ≡ Done → x ≡ 0
-done_zero told e = sym told ∙ ap answer_refusal e
+-- so that an answer with one tells a refusal
+pub refused-pos : {x : ℕ} (r : Result Unit Cause) → IsErr r → answer_refusal r ≡ x → x ≡ 0 → ⊥
+refused-pos (Ok _) h told z = absurd (false≢true h)
+refused-pos (Err c) h told z = omega (arith, cause_pos c, told)

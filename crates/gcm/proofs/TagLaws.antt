@@ -1,12 +1,15 @@
 -- H, J, the tag and GMAC as code gets them, and that the tag of a file's sum is GMAC of the file. They rest on the field's law of GHASH with no C.
 use mathlib.Core.Path.{◌≡◌, sym, ap, ap₂, ◌∙◌}
-use mathlib.Core.List.{List, [], ◌++◌}
-use Prim.Native.Nat.{ℕ, ◌≤◌}
-use lib.ListN.{length, replicate}
+use mathlib.Core.List.{List, [], ◌++◌, append-nil}
+use Prim.Native.Nat.{ℕ, ◌+◌, ◌≤◌}
+use native.Mathlib.Omega.{arith}
+use lib.ListN.{length, replicate, length-append, drop_of_length-le}
+use lib.Seq.{sets, sets-eq, take_at}
 use borrow.Author.Tests.{eq-eqb, ne_eqb}
 use Rattle.cipher.specs.Aes.{aes}
 use Rattle.field.specs.declared.blocks.Block.{Block}
 use Rattle.field.specs.Field.{Small, bytes, ◌⊕◌, ◌•◌, bytes_of, block_at, sum, length_block, ghash, max_bytes}
+use Rattle.field.proofs.Bytes.{length-bytes}
 use Rattle.field.proofs.Ring.{small-⊕, ⊕-cancel_r}
 use Rattle.field.proofs.Hash.{ghash-empty}
 use Rattle.field.proofs.BlockAt.{small-block_at}
@@ -18,9 +21,20 @@ pub hash-key_of : (key : List ℕ) {t : List ℕ} {r : Block} → t ≡ aes key 
 unfolding hash_key
 hash-key_of key e f = f ∙ ap (λ (t : List ℕ). block_at t 0) e
 
-pub J_twelve : (h : Block) (nonce : List ℕ) {t : List ℕ} → length nonce ≡ 12 → t ≡ nonce ++ bytes 4 1 → t ≡ J h nonce
+-- n are the nonce's bytes as they were copied, before four bytes
+pub J_twelve : (h : Block) (nonce : List ℕ) {n t : List ℕ} → length nonce ≡ 12 → n ≡ nonce
+    → t ≡ sets (n ++ replicate 4 0) 12 (bytes 4 1) → t ≡ J h nonce
 unfolding J
-J_twelve h nonce l e = simp (eq-eqb _ _ l) e
+J_twelve h nonce {n} {t} l en et =
+    let s = nonce ++ replicate 4 0 in
+    let size : length s ≡ 16 = length-append nonce (replicate 4 0) ∙ omega arith in
+    let one = length-bytes 4 1 in
+    let joined : sets s 12 (bytes 4 1) ≡ nonce ++ bytes 4 1 =
+    sets-eq (bytes 4 1) s 12 (omega arith)
+    ∙ ap₂ (λ (x y : List ℕ). x ++ bytes 4 1 ++ y) (take_at nonce (replicate 4 0) 12 l) (drop_of_length-le s {i = 12 + length (bytes 4 1)} (omega arith))
+    ∙ append-nil (nonce ++ bytes 4 1)
+    in
+    simp (eq-eqb _ _ l) (et ∙ ap (λ (x : List ℕ). sets (x ++ replicate 4 0) 12 (bytes 4 1)) en ∙ joined)
 
 pub J_other : (h : Block) (nonce : List ℕ) {g : Block} {t : List ℕ} → (length nonce ≡ 12 → ⊥) → g ≡ ghash h [] nonce
     → t ≡ bytes_of g → t ≡ J h nonce

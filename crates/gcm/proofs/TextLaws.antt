@@ -3,14 +3,15 @@
 use mathlib.Core.Path.{◌≡◌, refl, sym, ap, ap₂, ◌∙◌}
 use mathlib.Core.Bool.{Bool, true, false, cond, ◌&&◌, false≢true}
 use mathlib.Core.List.{List}
-use Prim.Native.Nat.{ℕ, zero, suc, ◌-◌, ◌*◌, ◌^◌, ◌≤◌}
+use Prim.Native.Nat.{ℕ, ◌-◌, ◌*◌, ◌^◌, ◌≤◌}
 use native.Mathlib.Omega.{arith}
 use lib.Dec.{eqb}
 use lib.ListN.{length, take, replicate}
 use lib.Seq.{sets, take_all}
 use borrow.Author.Tests.{eq-eqb, ne_eqb, le-leb}
+use Rattle.std.specs.Prelude.{Result, IsErr}
+use Rattle.std.proofs.lemmas.Bool.{false_from_ne_true}
 use Rattle.refusals.proofs.Laws.{first_none, first_here, first_later, agree, differ}
-use Rattle.cipher.specs.Aes.{rows_of}
 use Rattle.field.specs.declared.blocks.Block.{Block}
 use Rattle.field.specs.Field.{◌⊕◌, xor_bytes, bytes_of, blocks, ghash}
 use Rattle.field.proofs.BlockAt.{length-block_bytes, bytes_of-⊕}
@@ -20,14 +21,11 @@ use Rattle.gcm.specs.Gmac.{CIPH, hash_key, J}
 use Rattle.gcm.specs.Counters.{inc32, CB, concatenated, GCTR}
 use Rattle.gcm.specs.Authenticated.{turned, tag_of_text, GCM_AE, supported, equal, Plaintext, P, FAIL, GCM_AD}
 use Rattle.gcm.specs.declared.Cause.{Cause}
-use Rattle.gcm.specs.declared.texts.Begun.{Begun}
-use Rattle.gcm.specs.declared.Answer.{Answer}
-use Rattle.gcm.specs.declared.Answer.TheVariants.{Done, Refused}
 use Rattle.gcm.specs.Answers.{gcm_refusal, encrypted, DecryptAnswer, failed, released, decrypt_refusal, decrypted}
-use Rattle.gcm.specs.Clauses.{key_stream, Begins, answer_refusal, encrypt_result, decrypt_result}
+use Rattle.gcm.specs.Clauses.{key_stream, answer_refusal, encrypt_result, decrypt_result}
 use Rattle.gcm.proofs.CounterLaws.{GCTR_stream}
-use Rattle.gcm.proofs.Comparing.{never, equal_true, equal-same}
-use Rattle.gcm.proofs.Refusals.{Accepted, gcm_accepted, refused-pos, done_zero}
+use Rattle.gcm.proofs.Comparing.{equal_true, equal-same}
+use Rattle.gcm.proofs.Refusals.{Accepted, gcm_accepted, refused-pos}
 
 -- ---- the tag of a text
 
@@ -61,12 +59,9 @@ module _ (key nonce a text tag : List ℕ) where
   lengths-supported h =
       let t : 8 * length text ≤ 2 ^ 39 - 256 = omega (arith, h.short_text) in
       let d : 8 * length a ≤ 2 ^ 64 - 1 = omega (arith, h.short) in
+      let i : 1 ≤ 8 * length nonce = omega (arith, h.some_nonce) in
       let n : 8 * length nonce ≤ 2 ^ 64 - 1 = omega (arith, h.short_nonce) in
-      simp (le-leb _ _ t, le-leb _ _ d, le-leb _ _ (some (length nonce) h.some_nonce), le-leb _ _ n)
-    where
-      some : (n : ℕ) → (n ≡ 0 → ⊥) → 1 ≤ 8 * n
-      some zero f = absurd (f refl)
-      some (suc n) f = omega arith
+      simp (le-leb _ _ t, le-leb _ _ d, le-leb _ _ i, le-leb _ _ n)
 
   -- GCM-AD by the parts that it has in common with GCM-AE
   AD_parts : GCM_AD key nonce text a tag
@@ -86,7 +81,7 @@ module _ (key nonce a text tag : List ℕ) where
   AD_fails f =
       AD_parts
       ∙ ap (λ (x : Bool). cond (supported nonce text a && eqb (length tag) 16) (cond x (P (turned key nonce text)) FAIL) FAIL)
-      (never _ (λ e. f (equal_true tag _ e)))
+      (false_from_ne_true _ (λ e. f (equal_true tag _ e)))
       ∙ either (supported nonce text a && eqb (length tag) 16)
     where
       either : (x : Bool) → cond x FAIL FAIL ≡ FAIL
@@ -144,70 +139,64 @@ module _ (key nonce a text out tag : List ℕ) where
 
 -- ---- as code works
 
--- how a call begins: k is the key as it was read, rows its schedule, h the cipher of the zero block and j what was found for J
-pub begins : (key nonce : List ℕ) {k : List ℕ} {rows : List (List ℕ)} {b : Begun} → k ≡ key → rows ≡ rows_of k
-    → ((x : List ℕ) → rows ≡ rows_of x → b.h ≡ CIPH x (replicate 16 0)) → b.j ≡ J b.h nonce → Begins key nonce rows b
+-- the cipher of the zero block is H
+pub zero-block : (key : List ℕ) → CIPH key (replicate 16 0) ≡ hash_key key
 unfolding hash_key
-begins key nonce ek er eh ej =
-    let rows_are = er ∙ ap rows_of ek in
-    let h_is = eh key rows_are in
-    record { rows_are = rows_are; h_is = h_is; j_is = ej ∙ ap (λ (x : Block). J x nonce) h_is }
+zero-block key = refl
 
-module _ {key nonce : List ℕ} {rows : List (List ℕ)} {b : Begun} (begun : Begins key nonce rows b) where
+-- h and j are what was found for H and J
+module _ (key nonce : List ℕ) {h : Block} {j : List ℕ} (h_is : h ≡ hash_key key) (j_is : j ≡ J h nonce) where
+  j-of-key : j ≡ J (hash_key key) nonce
+  j-of-key = j_is ∙ ap (λ (x : Block). J x nonce) h_is
+
   -- the text turned
-  pub turned_of : (text : List ℕ) {t : List ℕ} → ((x : List ℕ) → rows ≡ rows_of x → t ≡ GCTR x (inc32 b.j) text) → t ≡ turned key nonce text
+  pub turned_of : (text : List ℕ) → GCTR key (inc32 j) text ≡ turned key nonce text
   unfolding turned
-  turned_of text et = et key begun.rows_are ∙ ap (λ (l : List ℕ). GCTR key (inc32 l) text) begun.j_is
+  turned_of text = ap (λ (l : List ℕ). GCTR key (inc32 l) text) j-of-key
 
   -- the tag of c and a: s is the hash and p the cipher of J
-  pub tag-text : (c a : List ℕ) {s p r : Block} → s ≡ ghash b.h a c → ((x : List ℕ) → rows ≡ rows_of x → p ≡ CIPH x b.j) → r ≡ s ⊕ p
-      → bytes_of r ≡ tag_of_text key nonce c a
+  pub tag-text : (c a : List ℕ) {s p r : Block} → s ≡ ghash h a c → p ≡ CIPH key j → r ≡ s ⊕ p → bytes_of r ≡ tag_of_text key nonce c a
   tag-text c a es ep er =
-      ap bytes_of
-      (er
-      ∙ ap₂ ◌⊕◌ (es ∙ ap (λ (x : Block). ghash x a c) begun.h_is) (ep key begun.rows_are ∙ ap (CIPH key) begun.j_is))
-      ∙ sym (tag-sum key nonce c a)
+      ap bytes_of (er ∙ ap₂ ◌⊕◌ (es ∙ ap (λ (x : Block). ghash x a c) h_is) (ep ∙ ap (CIPH key) j-of-key)) ∙ sym (tag-sum key nonce c a)
 
--- r is what was found of the refusal that lengths decide
-module _ (key nonce a text out tag : List ℕ) {r : Answer} (told : answer_refusal r ≡ gcm_refusal key nonce a text out tag) where
-  -- not refused, all lengths fit
-  pub gcm_fits : r ≡ Done → Accepted key nonce a text out tag
-  gcm_fits e = gcm_accepted key nonce a text out tag (done_zero told e)
+module _ (key nonce a text out tag : List ℕ) where
+  -- where a cause was found of the lengths, encryption is refused
+  pub encrypt_refused : (r : Result Unit Cause) → IsErr r → answer_refusal r ≡ gcm_refusal key nonce a text out tag
+      → encrypt_result (answer_refusal r) out tag ≡ encrypted key nonce a text out tag
+  encrypt_refused r h told =
+      ap (λ (n : ℕ). encrypt_result n out tag) told ∙ sym (encrypted-refused key nonce a text out tag (refused-pos r h told))
 
-  -- encryption refused
-  pub encrypt_refused : {c : Cause} → r ≡ Refused c → encrypt_result (answer_refusal r) out tag ≡ encrypted key nonce a text out tag
-  encrypt_refused e =
-      ap (λ (n : ℕ). encrypt_result n out tag) told ∙ sym (encrypted-refused key nonce a text out tag (refused-pos told e))
+  -- and decryption
+  pub decrypt_refused : (r : Result Unit Cause) → IsErr r → answer_refusal r ≡ gcm_refusal key nonce a text out tag
+      → decrypt_result (answer_refusal r) out ≡ decrypted key nonce a text out tag
+  decrypt_refused r h told =
+      ap (λ (n : ℕ). decrypt_result n out) told ∙ sym (decrypted-refused key nonce a text out tag (refused-pos r h told))
 
-  -- encryption done: t is what was written to the output, x the tag and u what was written to the tag
-  pub encrypt_done : {t u : List ℕ} (x : Block) → r ≡ Done → t ≡ turned key nonce text → bytes_of x ≡ tag_of_text key nonce t a
-      → u ≡ sets tag 0 (bytes_of x) → encrypt_result (answer_refusal r) t u ≡ encrypted key nonce a text out tag
-  encrypt_done {t} {u} x e et ex eu =
-      let c = turned key nonce text in
-      let u-is : u ≡ tag_of_text key nonce c a =
-      stored-all (record { is = eu; size = length-block_bytes x }) (gcm_fits e).size ∙ ex ∙ ap (λ (l : List ℕ). tag_of_text key nonce l a) et
-      in
-      ap₂ (encrypt_result (answer_refusal r)) et u-is
-      ∙ ap (λ (n : ℕ). encrypt_result n c (tag_of_text key nonce c a)) (ap answer_refusal e)
-      ∙ sym (encrypted_done key nonce a text out tag (done_zero told e))
+  -- where none was, all lengths fit
+  module _ (told : 0 ≡ gcm_refusal key nonce a text out tag) where
+    pub gcm_fits : Accepted key nonce a text out tag
+    gcm_fits = gcm_accepted key nonce a text out tag (sym told)
 
-  -- decryption refused for the lengths
-  pub decrypt_refused : {c : Cause} → r ≡ Refused c → decrypt_result (answer_refusal r) out ≡ decrypted key nonce a text out tag
-  decrypt_refused e =
-      ap (λ (n : ℕ). decrypt_result n out) told ∙ sym (decrypted-refused key nonce a text out tag (refused-pos told e))
+    -- encryption done: t is what was written to the output, x the tag and u what was written to the tag
+    pub encrypt_done : {t u : List ℕ} (x : Block) → t ≡ turned key nonce text → bytes_of x ≡ tag_of_text key nonce t a
+        → u ≡ sets tag 0 (bytes_of x) → encrypt_result 0 t u ≡ encrypted key nonce a text out tag
+    encrypt_done {t} {u} x et ex eu =
+        let u-is : u ≡ tag_of_text key nonce (turned key nonce text) a =
+        stored-all (record { is = eu; size = length-block_bytes x }) gcm_fits.size ∙ ex ∙ ap (λ (l : List ℕ). tag_of_text key nonce l a) et
+        in
+        ap₂ (encrypt_result 0) et u-is ∙ sym (encrypted_done key nonce a text out tag (sym told))
 
-  -- what was found of the tag
-  module _ (e : r ≡ Done) {right : Bool} (er : right ≡ equal tag (tag_of_text key nonce text a)) where
-    -- decryption refused for it
-    pub decrypt_wrong : right ≡ false → decrypt_result 14 out ≡ decrypted key nonce a text out tag
-    decrypt_wrong f =
-        sym
-        (decrypted-wrong key nonce a text out tag (done_zero told e)
-        (λ x. false≢true (sym f ∙ er ∙ ap (equal tag) (sym x) ∙ equal-same tag)))
+    -- what was found of the tag
+    module _ {right : Bool} (er : right ≡ equal tag (tag_of_text key nonce text a)) where
+      -- decryption refused for it
+      pub decrypt_wrong : right ≡ false → decrypt_result 14 out ≡ decrypted key nonce a text out tag
+      decrypt_wrong f =
+          sym
+          (decrypted-wrong key nonce a text out tag (sym told)
+          (λ x. false≢true (sym f ∙ er ∙ ap (equal tag) (sym x) ∙ equal-same tag)))
 
-    -- decryption done: t is what was written to the output
-    pub decrypt_done : {t : List ℕ} → right ≡ true → t ≡ turned key nonce text
-        → decrypt_result (answer_refusal r) t ≡ decrypted key nonce a text out tag
-    decrypt_done f et =
-        ap₂ (λ (n : Answer) (l : List ℕ). decrypt_result (answer_refusal n) l) e et
-        ∙ sym (decrypted-fits key nonce a text out tag (done_zero told e) (equal_true tag _ (sym er ∙ f)))
+      -- decryption done: t is what was written to the output
+      pub decrypt_done : {t : List ℕ} → right ≡ true → t ≡ turned key nonce text
+          → decrypt_result 0 t ≡ decrypted key nonce a text out tag
+      decrypt_done f et =
+          ap (decrypt_result 0) et ∙ sym (decrypted-fits key nonce a text out tag (sym told) (equal_true tag _ (sym er ∙ f)))

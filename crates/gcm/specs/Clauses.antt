@@ -1,14 +1,10 @@
--- What serves contracts alone: the code's answers read in the papers' numbers, what a call leaves as one record, how it begins, and the counter
+-- What serves contracts alone: the code's answers read in the papers' numbers, what a call begins with and what it leaves, a record each, and the counter
 -- blocks and key stream of a batch.
-use Rattle.std.specs.Prelude.{◌≡◌, Bool, List, [], ◌∷◌, ℕ, ◌+◌, ltb, length}
-use Rattle.cipher.specs.Aes.{rows_of}
+use Rattle.std.specs.Prelude.{Bool, List, [], ◌∷◌, ℕ, ◌+◌, Result, Ok, Err, ltb, length}
 use Rattle.field.specs.Field.{bytes_of, max_bytes}
 use Rattle.gcm.specs.declared.Cause.{Cause}
 use Rattle.gcm.specs.declared.Cause.TheVariants.{KeyLength, EmptyNonce, TagLength, TextLength, TooLong, TextTooLong, WrongTag}
-use Rattle.gcm.specs.declared.Answer.{Answer}
-use Rattle.gcm.specs.declared.Answer.TheVariants.{Done, Refused}
-use Rattle.gcm.specs.declared.texts.Begun.{Begun}
-use Rattle.gcm.specs.Gmac.{CIPH, hash_key, J}
+use Rattle.gcm.specs.Gmac.{CIPH}
 use Rattle.gcm.specs.Counters.{CB, concatenated}
 use Rattle.gcm.specs.Answers.{max_text, EncryptAnswer, DecryptAnswer}
 
@@ -23,9 +19,9 @@ cause_number TextTooLong = 13
 cause_number WrongTag = 14
 
 -- the refusal of an answer (document 01, "Causes and their numbers"), 0 where the work was done
-abbrev pub answer_refusal : Answer → ℕ
-answer_refusal Done = 0
-answer_refusal (Refused cause) = cause_number cause
+abbrev pub answer_refusal : Result Unit Cause → ℕ
+answer_refusal (Ok _) = 0
+answer_refusal (Err cause) = cause_number cause
 
 -- what encryption leaves, as one record
 abbrev pub encrypt_result : (refusal : ℕ) (out tag : List ℕ) → EncryptAnswer
@@ -40,11 +36,10 @@ abbrev pub long_causes : (nonce a text : List ℕ) → List (Bool × ℕ)
 long_causes nonce a text =
     (ltb max_bytes (length nonce), 2) ∷ (ltb max_bytes (length a), 2) ∷ (ltb max_text (length text), 13) ∷ []
 
--- a call has begun: the rows are the key's schedule, and H and J are found
-pub record Begins (key nonce : List ℕ) (rows : List (List ℕ)) (b : Begun) : Type 0 where
-  pub rows_are : rows ≡ rows_of key
-  pub h_is : b.h ≡ hash_key key
-  pub j_is : b.j ≡ J (hash_key key) nonce
+-- what a call has begun with
+pub record KeyAndNonce : Type 0 where
+  pub key : List ℕ
+  pub nonce : List ℕ
 
 -- n counter blocks, the first of them `first` steps behind icb
 unfoldable pub counters : List ℕ → (first n : ℕ) → List ℕ

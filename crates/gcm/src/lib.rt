@@ -8,14 +8,13 @@ mod texts;
 ghost use Rattle.std.specs.Prelude.{◌≡◌};
 ghost use Rattle.refusals.specs.Refusals.{first};
 ghost use Rattle.gcm.specs.Answers.{gmac_refusal, gmac_output, gcm_refusal, encrypted, decrypted};
-ghost use Rattle.gcm.specs.Clauses.{answer_refusal, long_causes, encrypt_result, decrypt_result};
+ghost use Rattle.gcm.specs.Clauses.{cause_number, answer_refusal, long_causes, encrypt_result, decrypt_result};
 
-use cipher::{Key, ROWS};
-use counters::gctr;
+use cipher::Key;
 use field::hashing::MAX_BYTES;
 use field::summing::sum;
 use tags::{hash_key, tag};
-use texts::{begin, tag_fits, text_tag};
+use texts::Call;
 
 // The most bytes that a text has, by SP 800-38D, 5.2.1.1: 2^36 - 32.
 const MAX_TEXT: u64 = 0xf_ffff_ffe0;
@@ -39,27 +38,34 @@ pub enum Cause {
     WrongTag,
 }
 
-#[derive(Clone, Copy)]
-pub enum Answer {
-    Done,
-    Refused(Cause),
+impl From<Cause> for u64 {
+    ghost from_gives = { λ cause n. n ≡ cause_number cause };
+
+    fn from(cause: Cause) -> u64 {
+        match cause {
+            Cause::KeyLength => 1,
+            Cause::EmptyNonce => 9,
+            Cause::TagLength => 7,
+            Cause::TextLength => 7,
+            Cause::TooLong => 2,
+            Cause::TextTooLong => 13,
+            Cause::WrongTag => 14,
+        }
+    }
 }
 
 // GMAC of a under a key and a nonce, written to out. Refused, in this order, where the key is not 16 bytes, where the nonce is empty,
 // where out is not sixteen bytes, and where the nonce or a is longer than 2^61 - 1 bytes; out then stays as it was. The time depends
-// on the lengths alone.
-pub fn gmac(key: &[u8], nonce: &[u8], a: &[u8], out: &mut [u8]) -> Answer
+// on the lengths alone. It goes by the sum and `tag`, as the file keeper's seal does: by a `Call` it would take the stack of sixteen blocks at once.
+pub fn gmac(key: &[u8], nonce: &[u8], a: &[u8], out: &mut [u8]) -> Result<(), Cause>
     ensures answer { answer_refusal result ≡ gmac_refusal key.now nonce.now a.now out.old }
     ensures output { out.new ≡ gmac_output key.now nonce.now a.now out.old }
 {
-    let answer = gcm_refusal(key, nonce, a, &a[..0], &a[..0], out);
-    if let Answer::Refused(_) = answer {
-        return answer;
-    }
+    gcm_refusal(key, nonce, a, &[], &[], out)?;
     let k = Key::from_bytes(key);
     let h = hash_key(k);
     tag(k, h, sum(h, a), a.len() as u64, nonce).write(out, 0);
-    answer
+    Ok(())
 }
 
 // Encrypts a text under a key and a nonce: out gets the ciphertext, and tag the tag of it and of the associated data a. Refused, in this
@@ -73,21 +79,15 @@ pub fn encrypt(
     text: &[u8],
     out: &mut [u8],
     tag: &mut [u8],
-) -> Answer
+) -> Result<(), Cause>
     ensures { encrypt_result (answer_refusal result) out.new tag.new
         ≡ encrypted key.now nonce.now a.now text.now out.old tag.old }
 {
-    let answer = gcm_refusal(key, nonce, a, text, out, tag);
-    if let Answer::Refused(_) = answer {
-        return answer;
-    }
-    let blank = [0u8; 16];
-    let mut rows = [blank; ROWS];
-    let begun = begin(key, nonce, &mut rows);
-    let j = begun.j;
-    gctr(&rows, j, text, out);
-    text_tag(&rows, begun, a, out).write(tag, 0);
-    answer
+    gcm_refusal(key, nonce, a, text, out, tag)?;
+    let call = Call::begin(key, nonce);
+    call.turn(text, out);
+    call.tag(a, out).write(tag, 0);
+    Ok(())
 }
 
 // Decrypts a text under a key and a nonce: where the tag is that of the text and of the associated data a, out gets the plaintext. Refused,
@@ -100,57 +100,58 @@ pub fn decrypt(
     text: &[u8],
     out: &mut [u8],
     tag: &[u8],
-) -> Answer
+) -> Result<(), Cause>
     ensures { decrypt_result (answer_refusal result) out.new
         ≡ decrypted key.now nonce.now a.now text.now out.old tag.now }
 {
-    let answer = gcm_refusal(key, nonce, a, text, out, tag);
-    if let Answer::Refused(_) = answer {
-        return answer;
+    gcm_refusal(key, nonce, a, text, out, tag)?;
+    let call = Call::begin(key, nonce);
+    if !call.tag_fits(a, text, tag) {
+        return Err(Cause::WrongTag);
     }
-    let blank = [0u8; 16];
-    let mut rows = [blank; ROWS];
-    let begun = begin(key, nonce, &mut rows);
-    if !tag_fits(&rows, begun, a, text, tag) {
-        return Answer::Refused(Cause::WrongTag);
-    }
-    let j = begun.j;
-    gctr(&rows, j, text, out);
-    answer
+    call.turn(text, out);
+    Ok(())
 }
 
-// The refusal that the lengths alone decide, or Done.
-fn gcm_refusal(key: &[u8], nonce: &[u8], a: &[u8], text: &[u8], out: &[u8], tag: &[u8]) -> Answer
+// The refusal that the lengths alone decide, or none. Each length that C may claim has its cause, so key and tag come as slices.
+fn gcm_refusal(
+    key: &[u8],
+    nonce: &[u8],
+    a: &[u8],
+    text: &[u8],
+    out: &[u8],
+    tag: &[u8],
+) -> Result<(), Cause>
     ensures { answer_refusal result ≡ gcm_refusal key.now nonce.now a.now text.now out.now
         tag.now }
 {
     if !Key::fits(key) {
-        return Answer::Refused(Cause::KeyLength);
+        return Err(Cause::KeyLength);
     }
     if nonce.len() == 0 {
-        return Answer::Refused(Cause::EmptyNonce);
+        return Err(Cause::EmptyNonce);
     }
     if tag.len() != 16 {
-        return Answer::Refused(Cause::TagLength);
+        return Err(Cause::TagLength);
     }
     if text.len() != out.len() {
-        return Answer::Refused(Cause::TextLength);
+        return Err(Cause::TextLength);
     }
     long_refusal(nonce, a, text)
 }
 
-// The refusal of a nonce, of associated data or of a text that is too long, or Done.
-fn long_refusal(nonce: &[u8], a: &[u8], text: &[u8]) -> Answer
+// The refusal of a nonce, of associated data or of a text that is too long, or none.
+fn long_refusal(nonce: &[u8], a: &[u8], text: &[u8]) -> Result<(), Cause>
     ensures { answer_refusal result ≡ first (long_causes nonce.now a.now text.now) }
 {
     if nonce.len() as u64 > MAX_BYTES {
-        return Answer::Refused(Cause::TooLong);
+        return Err(Cause::TooLong);
     }
     if a.len() as u64 > MAX_BYTES {
-        return Answer::Refused(Cause::TooLong);
+        return Err(Cause::TooLong);
     }
     if text.len() as u64 > MAX_TEXT {
-        return Answer::Refused(Cause::TextTooLong);
+        return Err(Cause::TextTooLong);
     }
-    Answer::Done
+    Ok(())
 }

@@ -13,8 +13,7 @@ use field::packing::store;
 pub fn hash_key(key: Key) -> Block
     ensures { result ≡ hash_key key.bytes }
 {
-    let h = key.encrypt([0u8; 16]);
-    Block::from_bytes(&h)
+    Block::from_bytes(&key.encrypt([0u8; 16]))
 }
 
 // J: a nonce of twelve bytes, then the 32-bit number 1; of any other nonce its hash. It serves the crate. The requires: the number of its
@@ -24,14 +23,10 @@ pub fn nonce_block(h: Block, nonce: &[u8]) -> [u8; 16]
     ensures { result ≡ Gmac.J h nonce.now }
 {
     if nonce.len() != 12 {
-        return hash(h, &nonce[..0], nonce).to_bytes();
+        return hash(h, &[], nonce).to_bytes();
     }
     let mut j = [0u8; 16];
-    let mut i = 0;
-    while i < 12 {
-        j[i] = nonce[i];
-        i += 1;
-    }
+    j[..12].copy_from_slice(nonce);
     store(&mut j, 12, 4, 1);
     j
 }
@@ -41,9 +36,7 @@ fn pad(key: Key, h: Block, nonce: &[u8]) -> Block
     requires { length nonce.now ≤ max_bytes }
     ensures { result ≡ Gmac.pad key.bytes h nonce.now }
 {
-    let j = nonce_block(h, nonce);
-    let p = key.encrypt(j);
-    Block::from_bytes(&p)
+    Block::from_bytes(&key.encrypt(nonce_block(h, nonce)))
 }
 
 // The tag, under a nonce, of n bytes whose sum is s: s and the length, times H, plus the pad. It serves the

@@ -96,11 +96,12 @@ block-text p b small ex ey =
     (hexadecimal-join 16 16 b.hi b.lo small.lo ∙ ap (hexadecimal 32) (sym (value-small b small)))
 
 -- the three lines, part by part
-pub lines-text : (n : ℕ) (hash : Block) {m : ℕ} {a b c d e : List ℕ} → m ≡ blocks n → a ≡ ascii "bytes " ++ decimal n
+pub lines-text : (n : ℕ) (hash : Block) {m : ℕ} {z a b c d e : List ℕ} → m ≡ blocks n → z ≡ [] → a ≡ z ++ ascii "bytes " ++ decimal n
     → b ≡ a ++ ascii "\nblocks " ++ decimal m → c ≡ b ++ ascii "\nghash " → d ≡ c ++ hexadecimal 32 (value hash) → e ≡ d ++ ascii "\n"
     → e ≡ file_lines n hash
 unfolding file_lines
-lines-text n hash em ea eb ec ed ee =
+lines-text n hash em ez ea' eb ec ed ee =
+    let ea = ea' ∙ ap (λ (x : List ℕ). x ++ ascii "bytes " ++ decimal n) ez in
     let b = eb ∙ ap₂ (λ (x : List ℕ) (y : ℕ). x ++ ascii "\nblocks " ++ decimal y) ea em in
     let d = ed ∙ ap (λ (x : List ℕ). x ++ hexadecimal 32 (value hash)) (ec ∙ ap (λ (x : List ℕ). x ++ ascii "\nghash ") b) in
     ee ∙ ap (λ (x : List ℕ). x ++ ascii "\n") d

@@ -13,10 +13,9 @@ pub record Took (input : Input) (h : Block) (s : Stream) : Type 0 where
   pub all : input.n ≡ 16 + length file
   pub fits : length file ≤ max_bytes
 
--- the input has ended, and no read of it failed
+-- the input has ended; a read that failed ends nothing
 pub record Ended (input : Input) : Type 0 where
   pub no_more : input.more ≡ false
-  pub sound : input.failed ≡ false
 
 -- the stream took the whole file
 pub record ReadWhole (input : Input) (h : Block) (s : Stream) : Type 0 where

@@ -1,22 +1,20 @@
 // Standard input, read once at a time. Whether there may be more of it, and whether a read failed, this module alone can say.
-ghost use Rattle.std.specs.Prelude.{◌≡◌, ◌+◌, ◌≤◌, ◌<◌, ◌^◌, ltb, length};
+ghost use Rattle.std.specs.Prelude.{◌≡◌, ◌+◌, ◌≤◌, ◌<◌, ◌^◌, ltb, length, IfOk, MatchResult};
 
 use std::io::Read;
 
-// Standard input after the reads so far: how many bytes they gave, whether there may be more, and whether one failed. With no more and no
-// failure the input has ended.
+// Standard input after the reads so far: how many bytes they gave, and whether there may be more. With no more the input has ended: a read
+// that failed ends nothing.
 #[derive(Clone, Copy)]
 pub struct Input {
     n: u64,
     more: bool,
-    failed: bool,
 }
 
-// What a buffer was given: that many bytes at its start, and the input after them.
+// A read failed. Its field is private, so that `Input::read` alone can say it.
 #[derive(Clone, Copy)]
-pub struct Given {
-    pub input: Input,
-    pub n: usize,
+pub struct Failed {
+    told: (),
 }
 
 impl Input {
@@ -24,11 +22,7 @@ impl Input {
     pub fn new() -> Input
         ensures { result.n ≡ 0 }
     {
-        Input {
-            n: 0,
-            more: true,
-            failed: false,
-        }
+        Input { n: 0, more: true }
     }
 
     // Whether there may be more.
@@ -38,30 +32,18 @@ impl Input {
         self.more
     }
 
-    // Whether a read failed.
-    pub fn failed(self) -> bool
-        ensures { result ≡ self.failed }
-    {
-        self.failed
-    }
-
-    // Reads once. A read that gives nothing is the input's end, or failed. The requires: something can be given, and the count of bytes has
-    // room.
-    pub fn read(self, rt: &HostRuntime, buf: &mut [u8]) -> Given
+    // Reads once, and answers how many bytes stand at the buffer's start. A read that gives nothing is the input's end. The requires: something
+    // can be given, and the count of bytes has room.
+    pub fn read(&mut self, rt: &HostRuntime, buf: &mut [u8]) -> Result<usize, Failed>
         requires some { 0 < length buf.old }
-        requires room { self.n + length buf.old < 2 ^ 64 }
-        ensures within { result.n ≤ length buf.new }
-        ensures going { result.input.more ≡ ltb 0 result.n }
-        ensures counted { result.input.n ≡ self.n + result.n }
+        requires room { self.old.n + length buf.old < 2 ^ 64 }
+        ensures within { IfOk result (λ n. n ≤ length buf.new) }
+        ensures going { MatchResult result (λ n. self.new.more ≡ ltb 0 n) (λ _. self.new.more ≡ self.old.more) }
+        ensures counted { MatchResult result (λ n. self.new.n ≡ self.old.n + n) (λ _. self.new.n ≡ self.old.n) }
     {
-        let got = rt.stdin().read(buf);
-        let failed = got.is_err();
-        let n = got.unwrap_or(0);
-        let input = Input {
-            n: self.n + n as u64,
-            more: 0 < n,
-            failed,
-        };
-        Given { input, n }
+        let n = rt.stdin().read(buf).map_err(|_| Failed { told: () })?;
+        self.n += n as u64;
+        self.more = 0 < n;
+        Ok(n)
     }
 }

@@ -5,14 +5,14 @@
 mod input;
 mod lines;
 
-ghost use Rattle.std.specs.Prelude.{◌≡◌, true, false, ◌+◌, ◌≤◌, ◌<◌, ◌^◌, length};
+ghost use Rattle.std.specs.Prelude.{◌≡◌, false, ◌+◌, ◌≤◌, ◌<◌, ◌^◌, length, IfOk};
 ghost use Rattle.hash.specs.Reading.{ReadWhole, TooShort, TooLong, Due};
 
 use field::Block;
 use field::hashing::MAX_BYTES;
 use field::streaming::Stream;
-use input::{Given, Input};
-use lines::{LINES_BYTES, lines};
+use input::{Failed, Input};
+use lines::lines;
 use std::env::{Env, FillError};
 
 fn main(rt: HostRuntime) {
@@ -20,18 +20,21 @@ fn main(rt: HostRuntime) {
         complain(&rt, b"usage: hash < INPUT (16 bytes of H, then the file)\n");
         return;
     }
+    if let Err(failed) = hash_input(&rt) {
+        unreadable(&rt, failed);
+    }
+}
+
+// Reads the key, and hashes the file behind it.
+fn hash_input(rt: &HostRuntime) -> Result<(), Failed> {
+    let mut input = Input::new();
     let mut key = [0u8; 16];
-    let given = fill(&rt, Input::new(), &mut key);
-    let input = given.input;
-    if input.failed() {
-        unreadable(&rt, input);
-        return;
+    let n = fill(rt, &mut input, &mut key)?;
+    if n < 16 {
+        too_short(rt, input);
+        return Ok(());
     }
-    if given.n < 16 {
-        too_short(&rt, input);
-        return;
-    }
-    hash_file(&rt, input, Block::from_bytes(&key));
+    hash_file(rt, input, Block::from_bytes(&key))
 }
 
 // Whether there is an argument behind the program's name.
@@ -43,52 +46,41 @@ fn has_argument(rt: &HostRuntime) -> bool {
     }
 }
 
-// Reads until the buffer is full, the input ends or a read fails. The requires: the count of bytes given has room.
-fn fill(rt: &HostRuntime, input: Input, buf: &mut [u8]) -> Given
-    requires { input.n + length buf.old < 2 ^ 64 }
-    ensures within { result.n ≤ length buf.new }
-    ensures full { result.n < length buf.new → result.input.more ≡ false }
-    ensures counted { result.input.n ≡ input.n + result.n }
+// Reads until the buffer is full or the input ends, and answers how many bytes stand at the buffer's start. The requires: the count of bytes given
+// has room.
+fn fill(rt: &HostRuntime, input: &mut Input, buf: &mut [u8]) -> Result<usize, Failed>
+    requires { input.old.n + length buf.old < 2 ^ 64 }
+    ensures within { IfOk result (λ n. n ≤ length buf.new) }
+    ensures full { IfOk result (λ n. n < length buf.new → input.new.more ≡ false) }
+    ensures counted { IfOk result (λ n. input.new.n ≡ input.old.n + n) }
 {
-    let mut source = input;
     let mut n = 0;
+    // no `for`: a read gives as many bytes as it likes
     while n < buf.len() {
-        let given = source.read(rt, &mut buf[n..]);
-        let next = given.input;
-        source = next;
-        n += given.n;
-        if !source.more() {
-            return Given { input: source, n };
+        n += input.read(rt, &mut buf[n..])?;
+        if !input.more() {
+            break;
         }
     }
-    Given { input: source, n }
+    Ok(n)
 }
 
 // Takes the file a buffer at a time, and prints its lines at its end. The requires: 16 bytes, the key, were given before.
-fn hash_file(rt: &HostRuntime, input: Input, h: Block)
+fn hash_file(rt: &HostRuntime, mut input: Input, h: Block) -> Result<(), Failed>
     requires { input.n ≡ 16 }
 {
-    let mut source = input;
     let mut stream = Stream::new(h);
     let mut buf = io::large_buffer();
     loop {
-        let given = fill(rt, source, &mut buf);
-        let next = given.input;
-        source = next;
-        if source.failed() {
-            unreadable(rt, source);
-            return;
-        }
-        let n = given.n;
+        let n = fill(rt, &mut input, &mut buf)?;
         if stream.n > MAX_BYTES - n as u64 {
-            too_long(rt, source);
-            return;
+            too_long(rt, input);
+            return Ok(());
         }
-        let longer = stream.absorb(&buf[..n]);
-        stream = longer;
-        if !source.more() {
-            print(rt, source, h, stream);
-            return;
+        stream = stream.absorb(&buf[..n]);
+        if !input.more() {
+            print(rt, input, h, stream);
+            return Ok(());
         }
     }
 }
@@ -97,9 +89,8 @@ fn hash_file(rt: &HostRuntime, input: Input, h: Block)
 fn print(rt: &HostRuntime, input: Input, h: Block, s: Stream)
     requires { ReadWhole input h s }
 {
-    let mut out = [0u8; LINES_BYTES];
-    let k = lines(s.n, s.finish(), &mut out);
-    say(rt, input, &out[..k]);
+    let text = lines(s.n, s.finish());
+    say(rt, input, text.bytes());
 }
 
 // Refuses an input under 16 bytes.
@@ -126,10 +117,8 @@ fn say(rt: &HostRuntime, input: Input, text: &[u8])
     }
 }
 
-// A failed read is told apart from the end of the input, and no hash is printed. The requires: a read failed.
-fn unreadable(rt: &HostRuntime, input: Input)
-    requires { input.failed ≡ true }
-{
+// A failed read is told apart from the end of the input, and no hash is printed.
+fn unreadable(rt: &HostRuntime, _: Failed) {
     complain(rt, b"hash: standard input cannot be read\n");
 }
 

@@ -1,6 +1,6 @@
 -- What a record's edit adds to a forecast's bound: by the sizes of its spans, as code counts it, and how it stands to the edit's count and to its bytes.
 -- They rest on the file keeper's laws of an edit's geometry (`EditLaws`, `EditAnswers`) and on the field's law of widths.
-use mathlib.Core.Path.{◌≡◌, refl, sym, ap, ap₂, ◌∙◌}
+use mathlib.Core.Path.{◌≡◌, sym, ap, ap₂, ◌∙◌}
 use mathlib.Core.Bool.{Bool, true, false, cond}
 use mathlib.Core.Logic.{◌≢◌, ◌⊎◌, inl, inr}
 use mathlib.Core.List.{List}
@@ -10,14 +10,15 @@ use native.Mathlib.Omega.{arith}
 use lib.Count.{count_leading_zeros}
 use lib.Dec.{eqb}
 use lib.ListN.{length}
-use borrow.Author.Tests.{eq-eqb, ne_eqb, eqb-true}
+use borrow.Author.Tests.{eq-eqb, ne_eqb}
 use Rattle.field.specs.Field.{blocks, width}
 use Rattle.field.proofs.Steps.{leading-width}
 use Rattle.file.specs.declared.states.State.{State}
 use Rattle.file.specs.Edits as keeper
-use Rattle.file.specs.Edits.{Geometry, kind_of, place_of, given, replacing, geometry_at, edit_refusal, count_of, count_limit}
+use Rattle.file.specs.Edits.{Geometry, kind_of, place_of, given, replacing, kind_refusal, touched, geometry_at, edit_refusal, count_of, count_limit}
 use Rattle.file.specs.States.{edited}
-use Rattle.file.proofs.EditLaws.{some-touched, none-untouched, refused-untouched, count-within}
+use Rattle.file.proofs.ShapeLaws.{reach, geometry-refusal}
+use Rattle.file.proofs.EditLaws.{geometry-some, some-touched, none-untouched, refused-untouched, count-within}
 use Rattle.file.proofs.EditAnswers.{edited-count, limit-few}
 use Rattle.journal.specs.declared.records.Edit.{Edit}
 use Rattle.journal.specs.declared.records.Edit.TheVariants.{Change, Append, Prepend, DropFront, CutTail}
@@ -36,10 +37,6 @@ span-geometry j n (Prepend s) h = rw (length_part j s.at s.size h)
 span-geometry j n (DropFront s) h = rw (length_part j s.at s.size h)
 span-geometry j n (CutTail s) h = rw (length_part j s.at s.size h)
 
--- g is what was measured of a record's edit, known to be f
-pub measured_as : (n : ℕ) {e f : Edit} {g : Geometry} → e ≡ f → g ≡ span_geometry n f → g ≡ span_geometry n e
-measured_as n q eg = eg ∙ sym (ap (span_geometry n) q)
-
 -- ---- its charge
 
 -- as code counts it
@@ -55,14 +52,21 @@ module _ (n : ℕ) (g : Geometry) where
       let same : width m ≡ width (max (blocks n) (blocks g.n)) = ap width (em ∙ ap₂ max ea eb) in
       rw (ne_eqb g.q 0 z) (omega (arith, leading-width 64 m l, same))
 
-  -- it is at least the blocks touched
-  pub charge-touched : g.q ≤ charge n g
-  unfolding charge count_limit
-  charge-touched = flag (eqb g.q 0) refl
-    where
-      flag : (t : Bool) → eqb g.q 0 ≡ t → g.q ≤ cond t 0 (g.q + 2 * width (max (blocks n) (blocks g.n)))
-      flag true z = omega (arith, eqb-true g.q 0 z)
-      flag false z = omega arith
+-- the blocks touched are so few that what is added has room in a word: an edit that is accepted reaches no further than the most bytes of a file
+some-few : (n : ℕ) (e : keeper.Edit) → edit_refusal n e ≡ 0 → length (given e) ≢ 0 → (geometry_at n e).q ≤ 2 ^ 60
+unfolding edit_refusal geometry_at touched
+some-few n e a z =
+    let accepted : kind_refusal (kind_of e) (place_of e) (length (given e)) (length (replacing e)) n ≡ 0 = sym (geometry-refusal _ _ _ _ n) ∙ a in
+    omega (arith, ap (λ (g : Geometry). g.q) (geometry-some n e a z), reach (kind_of e) (place_of e) (length (given e)) (length (replacing e)) n accepted)
+
+touched_by : (n : ℕ) (e : keeper.Edit) → (edit_refusal n e ≡ 0) ⊎ (0 < edit_refusal n e) → (length (given e) ≡ 0) ⊎ (0 < length (given e))
+    → (geometry_at n e).q ≤ 2 ^ 60
+touched_by n e (inr a) l = rw (refused-untouched n e (λ z. omega arith)) zero-le
+touched_by n e (inl a) (inl z) = rw (none-untouched n e a z) zero-le
+touched_by n e (inl a) (inr z) = some-few n e a (λ y. omega arith)
+
+pub touched-few : (n : ℕ) (e : keeper.Edit) → (geometry_at n e).q ≤ 2 ^ 60
+touched-few n e = touched_by n e (eq-zero-or-pos (edit_refusal n e)) (eq-zero-or-pos (length (given e)))
 
 -- of an accepted edit of at least one byte, and of one of none
 pub charged : (n : ℕ) (e : keeper.Edit) → edit_refusal n e ≡ 0 → length (given e) ≢ 0 → charge n (geometry_at n e) ≡ count_limit n (geometry_at n e)

@@ -1,36 +1,29 @@
--- Forecast, a law for each return. The loop's invariant (`Walking`) says what remains, as replay's does: the records from here on give what the whole
--- journal gives; and it bounds the bound by the place, so that it has room in a word.
--- They rest on the laws of a loop over the records (`PlaceLaws`) and on what an edit adds to the bound (`ChargeLaws`).
-use mathlib.Core.Path.{◌≡◌, sym, ap, subst, ◌∙◌}
+-- A forecast by what came before a place and the rest of a journal; and that it is a walk whose edits lengths take.
+use mathlib.Core.Path.{◌≡◌, refl, sym, ap, ◌∙◌}
+use mathlib.Core.Bool.{Bool, true, false}
 use mathlib.Core.Logic.{◌≢◌}
 use mathlib.Core.List.{List, [], ◌∷◌}
-use Prim.Native.Nat.{ℕ, suc, ◌+◌, ◌*◌, ◌^◌, ◌≤◌, ◌<◌, max}
+use Prim.Native.Nat.{ℕ, ◌+◌, ◌^◌, ◌≤◌, max}
 use native.Mathlib.Nat.{le_refl}
 use native.Mathlib.Omega.{arith}
+use lib.Dec.{eqb}
 use lib.ListN.{length}
-use borrow.Author.Tests.{eq-eqb, ne_eqb}
-use Rattle.file.specs.declared.causes.Cause as keeper'
+use borrow.Author.Tests.{eq-eqb, ne_eqb, eqb-true, eqb-false}
+use Rattle.std.specs.Prelude.{cond, Ok, Err}
+use Rattle.file.specs.declared.causes.Cause.{Cause}
 use Rattle.file.specs.declared.geometry.Shape.{Shape}
-use Rattle.file.specs.declared.geometry.Measured.{Measured}
-use Rattle.file.specs.declared.geometry.Measured.TheVariants as measured
 use Rattle.file.specs.Edits as keeper
 use Rattle.file.specs.Edits.{Geometry, geometry_at, edit_refusal}
-use Rattle.file.specs.Clauses as law
-use Rattle.file.specs.Clauses.{geometry_of}
-use Rattle.file.proofs.ShapeLaws as shape
-use Rattle.journal.specs.declared.causes.Cause.{Cause}
-use Rattle.journal.specs.declared.causes.Answer.{Answer}
-use Rattle.journal.specs.declared.causes.Answer.TheVariants as answer
+use Rattle.file.specs.Clauses.{cause_number, geometry_of}
+use Rattle.file.proofs.ShapeLaws.{cause_pos}
+use Rattle.journal.specs.declared.forecasting.Lengths.{Lengths}
 use Rattle.journal.specs.declared.records.Edit.{Edit}
-use Rattle.journal.specs.declared.records.Opened.{Opened}
-use Rattle.journal.specs.declared.records.Opened.TheVariants as opened
-use Rattle.journal.specs.Records.{record_bytes, opens, refused, ended, opening}
-use Rattle.journal.specs.Journals.{Journal, max_journal, opened_journal, journal_with, journal_from, replay_refusal}
+use Rattle.journal.specs.Journals.{Journal, opened_journal, replay_refusal}
 use Rattle.journal.specs.Singly.{made_from, made, stop_from, stop_of}
 use Rattle.journal.specs.Forecasts.{charge, charges, greatest_length, ForecastAnswer, forecast_at, forecasted}
-use Rattle.journal.specs.Clauses.{cause_number, answer_refusal, edit_of, Inside, OpenedAt, span_geometry}
-use Rattle.journal.proofs.PlaceLaws.{AtPlace, first_place, end_here, refused_here, record_here, record_within, next_place, next_most, whole_refused}
-use Rattle.journal.proofs.ChargeLaws.{span-geometry, charge-touched, charge-few}
+use Rattle.journal.specs.Walks.{WalkAnswer, walk_stopped, walked_edits, walked_on, walked, lengths_taken}
+use Rattle.journal.specs.Clauses.{edit_of, InsideEdit, taken_answer, span_geometry}
+use Rattle.journal.proofs.ChargeLaws.{span-geometry, touched-few, charge-few}
 
 -- ---- a journal from a place on
 
@@ -51,37 +44,6 @@ forecast_from n bound greatest o =
 forecast_so : {b b' g g' : ℕ} (stop : ℕ × ℕ) → b ≡ b' → g ≡ g' → forecast_at b g stop.0 stop.1 ≡ forecast_at b' g' stop.0 stop.1
 forecast_so stop eb eg = λ i. forecast_at (eb i) (eg i) stop.0 stop.1
 
--- by what stands at a place, where the greatest length is at least n
-module _ (most : ℕ) (j : List ℕ) (at n bound greatest : ℕ) (reached : n ≤ greatest) where
-  forecast_next : {e : keeper.Edit} {next : ℕ} → opening j at ≡ opens e next → edit_refusal n e ≡ 0
-      → let g = geometry_at n e in
-      forecast_from n bound greatest (journal_from (suc most) j at)
-      ≡ forecast_from g.n (bound + charge n g) (max greatest g.n) (journal_from most j next)
-  unfolding forecast_from journal_from journal_with made_from stop_from charges greatest_length
-  forecast_next {e} {next} q a =
-      let m = (geometry_at n e).n in
-      let es = made_from m (journal_from most j next).edits in
-      rw (q, eq-eqb (edit_refusal n e) 0 a) (forecast_so _ (omega arith) (omega (arith, greatest-from m es)))
-
-  -- nothing more is made
-  forecast_none : (stop : ℕ × ℕ) → forecast_at (bound + charges n []) (max greatest (greatest_length n [])) stop.0 stop.1
-      ≡ forecast_at bound greatest stop.0 stop.1
-  unfolding charges greatest_length
-  forecast_none stop = forecast_so stop (omega arith) (omega arith)
-
-  forecast_stopped : {e : keeper.Edit} {next : ℕ} → opening j at ≡ opens e next → edit_refusal n e ≢ 0
-      → forecast_from n bound greatest (journal_from (suc most) j at) ≡ forecast_at bound greatest (edit_refusal n e) at
-  unfolding forecast_from journal_from journal_with made_from stop_from
-  forecast_stopped {e} {next} q a = rw (q, ne_eqb (edit_refusal n e) 0 a) (forecast_none (edit_refusal n e, at))
-
-  forecast_refused : {m : ℕ} → opening j at ≡ refused m → forecast_from n bound greatest (journal_from (suc most) j at) ≡ forecast_at bound greatest m at
-  unfolding forecast_from journal_from journal_with made_from stop_from
-  forecast_refused {m} q = rw q (forecast_none (m, at))
-
-  forecast_ended : opening j at ≡ ended → forecast_from n bound greatest (journal_from (suc most) j at) ≡ forecast_at bound greatest 0 at
-  unfolding forecast_from journal_from journal_with made_from stop_from
-  forecast_ended q = rw q (forecast_none (0, at))
-
 -- the whole journal
 module _ (n : ℕ) (j : List ℕ) where
   pub forecasted_whole : replay_refusal n j ≢ 0 → forecasted n j ≡ forecast_at 0 n (replay_refusal n j) 0
@@ -94,91 +56,70 @@ module _ (n : ℕ) (j : List ℕ) where
       let es = made_from n (opened_journal j).edits in
       rw (eq-eqb (replay_refusal n j) 0 z) (forecast_so _ (omega arith) (omega (arith, greatest-from n es)))
 
--- ---- the loop over the records
+-- ---- a walk whose edits lengths take
 
--- the records from a place on give what the whole journal gives
-pub record Walking (j : List ℕ) (n₀ at n bound greatest : ℕ) : Type 0 where
-  pub place : AtPlace j at
-  pub rest : forecast_from n bound greatest (journal_from (suc place.most) j at) ≡ forecasted n₀ j
-  pub reached : n ≤ greatest
-  pub few : bound ≤ 11 * at
+-- what forecast answers, by its walk
+abbrev pub forecast_of : WalkAnswer Lengths → ForecastAnswer
+forecast_of w = forecast_at w.total w.after.greatest w.refusal w.offset
 
-pub walking_start : (j : List ℕ) (n : ℕ) → replay_refusal n j ≡ 0 → Walking j n 0 n 0 n
-unfolding opened_journal
-walking_start j n z = record { place = first_place j; rest = forecasted-records n j z; reached = le_refl n; few = omega arith }
+abbrev pub lengths : (n greatest : ℕ) → Lengths
+lengths n greatest = record { n = n; greatest = greatest }
 
-module _ {j : List ℕ} {n₀ at n bound greatest : ℕ} (s : Walking j n₀ at n bound greatest) {o : Opened} (h : OpenedAt j at o) where
-  pub walking_end : o ≡ opened.End → forecast_at bound greatest 0 (length j) ≡ forecasted n₀ j
-  walking_end q =
-      let e = end_here s.place h q in
-      ap (forecast_at bound greatest 0) e.1 ∙ sym (forecast_ended s.place.most j at n bound greatest s.reached e.0) ∙ s.rest
+-- where the greatest length is at least n
+forecasts-from : (n bound greatest : ℕ) → n ≤ greatest → (rs : List (ℕ × keeper.Edit)) (refusal offset : ℕ)
+    → forecast_of (walked_edits lengths_taken (lengths n greatest) bound rs refusal offset)
+    ≡ forecast_from n bound greatest (record { edits = rs; refusal = refusal; offset = offset })
+unfolding walked_edits lengths_taken forecast_from made_from stop_from charges greatest_length edit_refusal
+forecasts-from n bound greatest l [] refusal offset = forecast_so (refusal, offset) (omega arith) (omega arith)
+forecasts-from n bound greatest l (r ∷ rs) refusal offset =
+    flag (eqb g.refusal 0) (forecasts-from g.n (bound + charge n g) (max greatest g.n) (omega arith) rs refusal offset)
+  where
+    g : Geometry
+    g = geometry_at n r.1
 
-  pub walking_refused : {c : Cause} → o ≡ opened.Refused c → forecast_at bound greatest (cause_number c) at ≡ forecasted n₀ j
-  walking_refused q = sym (forecast_refused s.place.most j at n bound greatest s.reached (refused_here s.place h q)) ∙ s.rest
+    flag : (t : Bool)
+        → forecast_of (walked_edits lengths_taken (lengths g.n (max greatest g.n)) (bound + charge n g) rs refusal offset)
+        ≡ forecast_from g.n (bound + charge n g) (max greatest g.n) (record { edits = rs; refusal = refusal; offset = offset })
+        → let after = cond t (lengths g.n (max greatest g.n)) (lengths n greatest) in
+        let es = cond t (r.1 ∷ made_from g.n rs) [] in
+        let stop = cond t (stop_from g.n rs refusal offset) (g.refusal, r.0) in
+        forecast_of (cond t (walked_edits lengths_taken after (bound + charge n g) rs refusal offset) (walk_stopped after bound g.refusal r.0))
+        ≡ forecast_at (bound + charges n es) (max greatest (greatest_length n es)) stop.0 stop.1
+    flag true ih =
+        let es = made_from g.n rs in
+        ih ∙ forecast_so (stop_from g.n rs refusal offset) (omega arith) (omega (arith, greatest-from g.n es))
+    flag false ih = forecast_so (g.refusal, r.0) (omega arith) (omega arith)
 
-  module _ {e : Edit} {next : ℕ} (q : o ≡ opened.Record e next) where
-    here : opening j at ≡ opens (edit_of j e) next
-    here = record_here s.place h q
+pub forecasts : (n : ℕ) (j : List ℕ) → forecast_of (walked lengths_taken n (lengths n n) j) ≡ forecasted n j
+unfolding walked walked_on
+forecasts n j = flag (eqb (replay_refusal n j) 0) refl
+  where
+    flag : (t : Bool) → eqb (replay_refusal n j) 0 ≡ t
+        → let o = opened_journal j in
+        forecast_of (cond t (walked_edits lengths_taken (lengths n n) 0 o.edits o.refusal o.offset) (walk_stopped (lengths n n) 0 (replay_refusal n j) 0))
+        ≡ forecasted n j
+    flag true t =
+        let o = opened_journal j in
+        forecasts-from n 0 n (le_refl n) o.edits o.refusal o.offset ∙ forecasted-records n j (eqb-true (replay_refusal n j) 0 t)
+    flag false t = sym (forecasted_whole n j (eqb-false (replay_refusal n j) 0 t))
 
-    within : (next ≡ at + record_bytes (edit_of j e)) × (next ≤ length j)
-    within = record_within s.place h q
+-- ---- one record
 
-    -- x is what was measured of the edit
-    module _ (x : Measured) (a : geometry_of n x ≡ span_geometry n e) where
-      known : geometry_of n x ≡ geometry_at n (edit_of j e)
-      known = a ∙ span-geometry j n e (subst (Inside (length j)) q h.inside)
+-- what was measured of a record's edit, and what is added for it, is what lengths make of it
+module _ (j : List ℕ) (s : Lengths) (e : Edit) (inside : InsideEdit (length j) e) where
+  pub measured-refused : (c : Cause) → geometry_of s.n (Err c) ≡ span_geometry s.n e → taken_answer s (Err c) ≡ lengths_taken s (edit_of j e)
+  unfolding lengths_taken charge
+  measured-refused c x = rw (← (x ∙ span-geometry j s.n e inside)) (rw (ne_eqb (cause_number c) 0 (λ z. omega (arith, cause_pos c))))
 
-      pub walking_stopped : {c : keeper'.Cause} → x ≡ measured.Refused c → forecast_at bound greatest (law.cause_number c) at ≡ forecasted n₀ j
-      unfolding edit_refusal
-      walking_stopped {c} r =
-          let m : law.cause_number c ≡ edit_refusal n (edit_of j e) = ap (λ (g : Geometry). g.refusal) (sym (ap (geometry_of n) r) ∙ known) in
-          ap (λ (k : ℕ). forecast_at bound greatest k at) m
-          ∙ sym (forecast_stopped s.place.most j at n bound greatest s.reached here (λ z. omega (arith, m, shape.cause_pos c)))
-          ∙ s.rest
+  module _ {w : Shape} (x : geometry_of s.n (Ok w) ≡ span_geometry s.n e) where
+    pub measured-taken : {m a : ℕ} → m ≡ max s.greatest w.n → a ≡ charge s.n (geometry_of s.n (Ok w))
+        → taken_answer (lengths w.n m) (Ok a) ≡ lengths_taken s (edit_of j e)
+    unfolding lengths_taken
+    measured-taken em ea = rw (← (x ∙ span-geometry j s.n e inside)) (rw (em, ea))
 
-      module _ {w : Shape} (d : x ≡ measured.Fits w) where
-        fits : geometry_of n (measured.Fits w) ≡ geometry_at n (edit_of j e)
-        fits = sym (ap (geometry_of n) d) ∙ known
+    pub measured-few : w.q ≤ 2 ^ 60
+    measured-few = omega (arith, ap (λ (g : Geometry). g.q) (x ∙ span-geometry j s.n e inside), touched-few s.n (edit_of j e))
 
-        accepted : edit_refusal n (edit_of j e) ≡ 0
-        unfolding edit_refusal
-        accepted = ap (λ (g : Geometry). g.refusal) (sym fits)
-
-        pub touched-fits : length j ≤ max_journal → w.q ≤ 2 ^ 60
-        unfolding record_bytes
-        touched-fits l =
-            let g = geometry_at n (edit_of j e) in
-            omega (arith, ap (λ (y : Geometry). y.q) fits, charge-touched n g, charge-few n (edit_of j e), within)
-
-        -- m is what it adds
-        module _ {m : ℕ} (em : m ≡ charge n (geometry_of n (measured.Fits w))) where
-          added : m ≡ charge n (geometry_at n (edit_of j e))
-          added = em ∙ ap (charge n) fits
-
-          -- an edit adds at most 128 more than the bytes that it gives, its record has 12 bytes besides, and 128 is below 11 times 12
-          bound-few : bound + m ≤ 11 * next
-          unfolding record_bytes
-          bound-few = omega (arith, added, charge-few n (edit_of j e), within.0, s.few)
-
-          -- so the bound has room in a word
-          pub bound-fits : length j ≤ max_journal → bound + m < 2 ^ 64
-          bound-fits l = omega (arith, bound-few, within.1)
-
-          pub walking_next : {g : ℕ} → g ≡ max greatest w.n → Walking j n₀ next w.n (bound + m) g
-          walking_next {g} eg =
-              let after : w.n ≡ (geometry_at n (edit_of j e)).n = ap (λ (y : Geometry). y.n) fits in
-              record {
-                place = next_place s.place h q;
-                rest =
-                    rw (next_most s.place h q, eg, after, added)
-                    (sym (forecast_next s.place.most j at n bound greatest s.reached here accepted) ∙ s.rest);
-                reached = omega (arith, eg);
-                few = bound-few;
-              }
-
--- ---- the journal as a whole
-
--- a is the answer on length and journal as a whole
-pub forecast_whole : (n : ℕ) (j : List ℕ) {a : Answer} → answer_refusal a ≡ replay_refusal n j → {c : Cause} → a ≡ answer.Refused c
-    → forecast_at 0 n (answer_refusal a) 0 ≡ forecasted n j
-forecast_whole n j e q = ap (λ (k : ℕ). forecast_at 0 n k 0) e ∙ sym (forecasted_whole n j (whole_refused n j e q))
+pub lengths-few : (s : Lengths) (e : keeper.Edit) → (lengths_taken s e).added ≤ length (keeper.given e) + 128
+unfolding lengths_taken
+lengths-few s e = charge-few s.n e

@@ -2,7 +2,7 @@
 -- It rests on these (`Format`, `Singly`), on what an opening tells (`OpeningLaws`) and on the file keeper's laws of appends (`KnownLists`).
 use mathlib.Core.Path.{◌≡◌, refl, sym, ap, subst, ◌∙◌}
 use mathlib.Core.List.{List, [], ◌∷◌, ◌++◌, map, map-map, flatten, append-nil, append_assoc}
-use Prim.Native.Nat.{ℕ, zero, suc, ◌+◌, ◌≤◌, ◌<◌, ◌^◌}
+use Prim.Native.Nat.{ℕ, zero, suc, ◌+◌, ◌≤◌}
 use native.Mathlib.Nat.{add-zero, zero-add}
 use native.Mathlib.Omega.{arith}
 use lib.ListN.{length, replicate, length-append, length-replicate}
@@ -14,7 +14,7 @@ use Rattle.file.specs.Calls.{edit}
 use Rattle.file.specs.Runs.{Run, run}
 use Rattle.file.specs.Met.{appends}
 use Rattle.file.proofs.KnownLists.{append-refusal, append-length}
-use Rattle.journal.specs.Records.{packed_record, record_bytes, opens, ended, opening, HasRecord, Format}
+use Rattle.journal.specs.Records.{packed_record, record_bytes, ended, opening, HasRecord, Format}
 use Rattle.journal.specs.Journals.{journal_from, opened_journal, replayed}
 use Rattle.journal.specs.Singly.{made_from, made, Opens, answer_at, Singly}
 use Rattle.journal.specs.Met.{packed_records, HaveRecords, FormatMet, append_journal, Replayable, ReplayedWhole, ReplayMet}

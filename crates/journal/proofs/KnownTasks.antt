@@ -20,7 +20,6 @@ use Rattle.file.specs.Demands.{AcceptedStart, SlipOf, up_from}
 use Rattle.file.specs.Met.{appends, append_counts}
 use Rattle.file.proofs.KnownLists.{run-append, longer, seal-accepts, risen}
 use Rattle.file.proofs.HypothesesMet.{read-sum}
-use Rattle.journal.specs.Journals.{replayed}
 use Rattle.journal.specs.Singly.{made, stop_of, Task, call, replay, idle, worked_all, task_calls, task_refusal, as_calls, task_refusals}
 use Rattle.journal.specs.Met.{append_journal, Replayable, AllReplayable, journals_then_seals, Filed, JournalDemandsMet}
 use Rattle.journal.proofs.Singly.{replay_theorem}

@@ -1,8 +1,10 @@
 -- The journal's laws, from the bottom up.
 pub mod RecordLaws
+pub mod SpanLaws
 pub mod Format
 pub mod OpeningLaws
 pub mod PlaceLaws
+pub mod WalkLaws
 pub mod ReplayLaws
 pub mod Singly
 pub mod ChargeLaws

@@ -1,5 +1,4 @@
--- A loop over a journal's records, whatever it does with them: where it stands (`AtPlace`), what was opened there, and the journal as a whole. Replay's
--- and forecast's rest on these.
+-- A loop over a journal's records, whatever it does with them: where it stands (`AtPlace`), what was opened there, and the journal as a whole.
 -- They rest on what an opening tells (`OpeningLaws`).
 use mathlib.Core.Path.{◌≡◌, sym, ap, subst, ◌∙◌}
 use mathlib.Core.List.{List}
@@ -10,15 +9,12 @@ use borrow.Author.Tests.{lt-ltb, le-ltb, ltb-false}
 use Rattle.refusals.proofs.Laws.{first_none, first_here, first_later, first_passed}
 use Rattle.field.specs.Field.{max_bytes}
 use Rattle.journal.specs.declared.causes.Cause.{Cause}
-use Rattle.journal.specs.declared.causes.Answer.{Answer}
-use Rattle.journal.specs.declared.causes.Answer.TheVariants as answer
 use Rattle.journal.specs.declared.records.Edit.{Edit}
 use Rattle.journal.specs.declared.records.Opened.{Opened}
 use Rattle.journal.specs.declared.records.Opened.TheVariants as opened
 use Rattle.journal.specs.Records.{record_bytes, opens, refused, ended, opening}
 use Rattle.journal.specs.Journals.{max_journal, replay_refusal}
-use Rattle.journal.specs.Clauses.{cause_number, answer_refusal, edit_of, opening_of, OpenedAt}
-use Rattle.journal.proofs.RecordLaws.{cause_pos}
+use Rattle.journal.specs.Clauses.{cause_number, edit_of, opening_of, OpenedAt}
 use Rattle.journal.proofs.OpeningLaws.{Tells, tells}
 
 -- ---- a place
@@ -34,11 +30,8 @@ first_place j = record { most = length j; within = omega arith; enough = omega a
 
 -- o was opened there
 module _ {j : List ℕ} {at : ℕ} (s : AtPlace j at) {o : Opened} (h : OpenedAt j at o) where
-  pub end_here : o ≡ opened.End → (opening j at ≡ ended) × (length j ≡ at)
-  end_here q =
-      let e : opening j at ≡ ended = sym h.same ∙ ap (opening_of j) q in
-      let end : length j ≤ at = subst (Tells j at) e (tells j at) in
-      (e, omega (arith, s.within))
+  pub end_here : o ≡ opened.End → opening j at ≡ ended
+  end_here q = sym h.same ∙ ap (opening_of j) q
 
   pub refused_here : {c : Cause} → o ≡ opened.Refused c → opening j at ≡ refused (cause_number c)
   refused_here q = sym h.same ∙ ap (opening_of j) q
@@ -84,11 +77,3 @@ module _ (n : ℕ) (j : List ℕ) where
   passed z =
       let state = first_passed _ _ _ z (omega arith) in
       (ltb-false max_bytes n state.0, ltb-false max_journal (length j) (first_passed _ _ _ state.1 (omega arith)).0)
-
--- a is the answer on length and journal
-module _ (n : ℕ) (j : List ℕ) {a : Answer} (e : answer_refusal a ≡ replay_refusal n j) where
-  pub whole_refused : {c : Cause} → a ≡ answer.Refused c → replay_refusal n j ≡ 0 → ⊥
-  whole_refused {c} q z = omega (arith, sym e ∙ ap answer_refusal q, cause_pos c)
-
-  pub whole_passed : a ≡ answer.Done → replay_refusal n j ≡ 0
-  whole_passed q = sym e ∙ ap answer_refusal q

@@ -1,7 +1,8 @@
--- The definitions, from the bottom up; `Contracts` is what serves contracts alone.
+-- The definitions, from the bottom up; `Clauses` is what serves contracts alone.
 pub mod Records
 pub mod Journals
 pub mod Singly
 pub mod Forecasts
+pub mod Walks
 pub mod Met
 pub mod Clauses

@@ -1,5 +1,6 @@
 // Why replay stops, and so forecast. The numbers are in specs/Clauses.
 ghost use Rattle.std.specs.Prelude.{◌≡◌};
+ghost use Rattle.journal.specs.declared.causes.Cause.TheVariants.{File};
 ghost use Rattle.journal.specs.Clauses.{cause_number};
 
 #[derive(Clone, Copy)]
@@ -14,23 +15,24 @@ pub enum Cause {
     File(file::Cause),
 }
 
-impl Cause {
-    // The number of a cause. It serves the layers above.
-    pub fn number(self) -> u64
-        ensures { result ≡ cause_number self }
-    {
-        match self {
+// The number of a cause. It serves the layers above.
+impl From<Cause> for u64 {
+    ghost from_gives = { λ cause n. n ≡ cause_number cause };
+
+    fn from(cause: Cause) -> u64 {
+        match cause {
             Cause::JournalLength => 10,
             Cause::UnknownKind => 11,
             Cause::PlaceOutsideChange => 12,
-            Cause::File(cause) => cause.number(),
+            Cause::File(cause) => u64::from(cause),
         }
     }
 }
 
-// What replay, forecast or a test answers.
-#[derive(Clone, Copy)]
-pub enum Answer {
-    Done,
-    Refused(Cause),
+impl From<file::Cause> for Cause {
+    ghost from_gives = { λ given made. made ≡ File given };
+
+    fn from(cause: file::Cause) -> Cause {
+        Cause::File(cause)
+    }
 }

@@ -8,7 +8,8 @@ mod forecasting;
 mod reader;
 mod records;
 mod replaying;
+mod walking;
 
-pub use causes::{Answer, Cause};
+pub use causes::Cause;
 pub use forecasting::{Forecasted, forecast};
 pub use replaying::{Replayed, replay};

@@ -1,5 +1,5 @@
-// The reader: it stands at a place of the lent journal, opens what is there, and moves on. Its functions are thin over `open_at`. Replay and forecast
-// make one for each record; their loops hold the place.
+// The reader: it stands at a place of the lent journal, opens what is there, and moves on. Its functions are thin over `open_at`. One reader moves
+// through a whole journal (walking).
 ghost use Rattle.std.specs.Prelude.{◌≡◌};
 ghost use Rattle.journal.specs.Clauses.{OpenedAt};
 
@@ -11,33 +11,25 @@ pub struct Reader<'a> {
     pub place: usize,
 }
 
-// A reader at a journal's first byte.
-pub fn new<'a>(journal: &'a [u8]) -> Reader<'a>
-    ensures { (result.journal ≡ journal.entry) × (result.place ≡ 0) }
-{
-    Reader { journal, place: 0 }
-}
-
-// The reader moved to another place.
-pub fn moved<'a>(r: Reader<'a>, place: usize) -> Reader<'a>
-    ensures { (result.journal ≡ r.entry.journal) × (result.place ≡ place) }
-{
-    Reader {
-        journal: r.journal,
-        place,
+impl<'a> Reader<'a> {
+    // A reader at a journal's first byte. It serves the crate.
+    pub fn new(journal: &'a [u8]) -> Reader<'a>
+        ensures { (result.journal ≡ journal.entry) × (result.place ≡ 0) }
+    {
+        Reader { journal, place: 0 }
     }
-}
 
-// Opens what stands where the reader stands.
-pub fn open<'a>(r: Reader<'a>) -> Opened
-    ensures { OpenedAt r.entry.journal.now r.entry.place result }
-{
-    open_at(r.journal, r.place)
-}
+    // Opens what stands where the reader stands. It serves the crate.
+    pub fn open(&self) -> Opened
+        ensures { OpenedAt self.now.journal.now self.now.place result }
+    {
+        open_at(self.journal, self.place)
+    }
 
-// Opens what stands at a place of a journal, by a reader. Replay and forecast read every record so.
-pub fn record_at(journal: &[u8], place: usize) -> Opened
-    ensures { OpenedAt journal.now place result }
-{
-    open(moved(new(journal), place))
+    // Moves to another place. It serves the crate.
+    pub fn move_to(&mut self, place: usize)
+        ensures { (self.new.journal ≡ self.old.journal) × (self.new.place ≡ place) }
+    {
+        self.place = place;
+    }
 }

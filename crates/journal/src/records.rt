@@ -1,12 +1,13 @@
 // A record of a journal, opened: one kind of edit with its own fields. Of the bytes that an edit names it holds where they stand in the
 // journal.
-ghost use Rattle.std.specs.Prelude.{◌≡◌, ◌+◌, ◌≤◌, ◌<◌, ◌^◌, length};
+ghost use Rattle.std.specs.Prelude.{◌≡◌, ℕ, ◌+◌, ◌≤◌, ◌<◌, ◌^◌, length, IfOk};
 ghost use Rattle.refusals.specs.Refusals.{first};
-ghost use Rattle.journal.specs.Records.{head_bytes, body_bytes, head_causes};
-ghost use Rattle.journal.specs.Clauses.{answer_refusal, head_of, edit_from, OpenedAt};
+ghost use Rattle.journal.specs.Records.{head_bytes, head_causes};
+ghost use Rattle.journal.specs.Clauses.{answer_refusal, bytes_in, body_of, spans_of, KindOf, HeadAt, OpenedAt};
 
-use super::causes::{Answer, Cause};
+use super::causes::Cause;
 use field::packing::number_at;
+use file::Kind;
 
 // The bytes of a record's head.
 const HEAD_BYTES: usize = 12;
@@ -14,7 +15,7 @@ const HEAD_BYTES: usize = 12;
 // A head's first word is its kind, of 3 bits, and then its place, of 61: what the kind is multiplied by.
 const KIND: u64 = 0x2000_0000_0000_0000;
 
-// Where bytes of an edit stand in the journal: size bytes from a place on.
+// Where bytes of an edit stand in the journal: size bytes from a place on. Document 01's form names a span struct, so it is places and no slice.
 #[derive(Clone, Copy)]
 pub struct Span {
     pub at: usize,
@@ -31,7 +32,8 @@ pub enum Edit {
     CutTail(Span),
 }
 
-// What stands at a place of a journal: a record's edit with the place behind it, a record that does not open, or the journal's end.
+// What stands at a place of a journal: a record's edit with the place behind it, a record that does not open, or the journal's end. Document 01's
+// form holds the edit in the opening answer's enum, so it is no Option in a Result.
 #[derive(Clone, Copy)]
 pub enum Opened {
     Record(Edit, usize),
@@ -39,12 +41,109 @@ pub enum Opened {
     End,
 }
 
-// A record's head: its kind, its place and the length of its bytes.
+// A record's head: its kind, where it is one of the five, its place and the length of its bytes.
 #[derive(Clone, Copy)]
 pub struct Head {
-    pub kind: u64,
+    pub kind: Option<Kind>,
     pub p: u64,
     pub size: u32,
+}
+
+impl Span {
+    // Its bytes. It serves the crate. The requires: they lie in the journal.
+    pub fn of<'a>(self, journal: &'a [u8]) -> &'a [u8]
+        requires { self.at + self.size ≤ length journal.now }
+        ensures { result.now ≡ bytes_in journal.now self }
+    {
+        &journal[self.at..self.at + self.size]
+    }
+}
+
+impl Head {
+    // The head of the record at a place. The requires: the head lies in the journal.
+    fn read(journal: &[u8], at: usize) -> Head
+        requires { at + head_bytes ≤ length journal.now }
+        ensures { HeadAt journal.now at result }
+    {
+        let word = number_at(0, journal, at, 8);
+        let size = number_at(0, journal, at + 8, 4) as u32;
+        Head {
+            kind: kind_named(word / KIND),
+            p: word % KIND,
+            size,
+        }
+    }
+
+    // How many bytes stand behind it: of a change its old and its new ones.
+    fn body(self) -> usize
+        ensures { result ≡ body_of self.kind self.size }
+    {
+        let size = self.size as usize;
+        match self.kind {
+            Some(Kind::Change) => 2 * size,
+            _ => size,
+        }
+    }
+
+    // Its kind, or its record's refusal, where left bytes stand behind it.
+    fn tested(self, left: usize) -> Result<Kind, Cause>
+        ensures refusal { (n : ℕ) → KindOf n self.kind → answer_refusal result ≡ first (head_causes n self.p self.size left) }
+        ensures kind { IfOk result (λ kind. self.kind ≡ Some kind) }
+    {
+        if left < self.body() {
+            return Err(Cause::JournalLength);
+        }
+        let Some(kind) = self.kind else {
+            return Err(Cause::UnknownKind);
+        };
+        match kind {
+            Kind::Change => Ok(kind),
+            _ => {
+                if self.p != 0 {
+                    return Err(Cause::PlaceOutsideChange);
+                }
+                Ok(kind)
+            }
+        }
+    }
+
+    // The edit of its record, of a kind, whose bytes stand from a place on. The requires: places are numbers of the machine.
+    fn edit(self, kind: Kind, start: usize) -> Edit
+        requires { start + self.size < 2 ^ 64 }
+        ensures { result ≡ spans_of kind self.p self.size start }
+    {
+        let size = self.size as usize;
+        let given = Span { at: start, size };
+        match kind {
+            Kind::Change => Edit::Change {
+                p: self.p,
+                old: given,
+                new: Span {
+                    at: start + size,
+                    size,
+                },
+            },
+            Kind::Append => Edit::Append(given),
+            Kind::Prepend => Edit::Prepend(given),
+            Kind::DropFront => Edit::DropFront(given),
+            Kind::CutTail => Edit::CutTail(given),
+        }
+    }
+}
+
+// The kind of a number, where it is one of the five.
+#[tactic(auto, unfolding(crate::specs::Records::kind_number))]
+fn kind_named(number: u64) -> Option<Kind>
+    ensures { KindOf number result }
+{
+    match number {
+        1 => Some(Kind::Change),
+        2 => Some(Kind::Append),
+        3 => Some(Kind::Prepend),
+        4 => Some(Kind::DropFront),
+        5 => Some(Kind::CutTail),
+        _ => None,
+    }
 }
 
 // Opens what stands at a place: the work behind the reader.
@@ -58,85 +157,10 @@ pub fn open_at(journal: &[u8], at: usize) -> Opened
     if left < HEAD_BYTES {
         return Opened::Refused(Cause::JournalLength);
     }
-    let head = head_at(journal, at);
-    let body = body_bytes(head.kind, head.size);
-    let answer = head_refusal(head, body, left - HEAD_BYTES);
-    if let Answer::Refused(cause) = answer {
-        return Opened::Refused(cause);
-    }
+    let head = Head::read(journal, at);
     let start = at + HEAD_BYTES;
-    Opened::Record(edit_from(head, start), start + body)
-}
-
-// The head of the record at a place. The requires: the head lies in the journal.
-fn head_at(journal: &[u8], at: usize) -> Head
-    requires { at + head_bytes ≤ length journal.now }
-    ensures { result ≡ head_of journal.now at }
-{
-    let word = number_at(0, journal, at, 8);
-    let size = number_at(0, journal, at + 8, 4) as u32;
-    Head {
-        kind: word / KIND,
-        p: word % KIND,
-        size,
-    }
-}
-
-// How many bytes stand behind the head of a record of a kind: of a change, which is kind 1, its old and its new ones.
-fn body_bytes(kind: u64, size: u32) -> usize
-    ensures { result ≡ body_bytes kind size }
-{
-    if kind == 1 {
-        return 2 * (size as usize);
-    }
-    size as usize
-}
-
-// The refusal of a record by its head, or Done, where left bytes stand behind the head and the record needs body of them. The kinds are 1 to 5,
-// and 1 is a change.
-fn head_refusal(head: Head, body: usize, left: usize) -> Answer
-    requires { body ≡ body_bytes head.kind head.size }
-    ensures { answer_refusal result ≡ first (head_causes head.kind head.p head.size left) }
-{
-    if left < body {
-        return Answer::Refused(Cause::JournalLength);
-    }
-    if head.kind == 0 {
-        return Answer::Refused(Cause::UnknownKind);
-    }
-    if head.kind > 5 {
-        return Answer::Refused(Cause::UnknownKind);
-    }
-    if head.kind == 1 {
-        return Answer::Done;
-    }
-    if head.p != 0 {
-        return Answer::Refused(Cause::PlaceOutsideChange);
-    }
-    Answer::Done
-}
-
-// The edit of a record whose bytes stand from a place on, by its kind: 1 change, 2 append, 3 prepend, 4 drop-front, 5 cut-tail. The requires:
-// places are numbers of the machine.
-fn edit_from(head: Head, start: usize) -> Edit
-    requires { start + body_bytes head.kind head.size < 2 ^ 64 }
-    ensures { result ≡ edit_from head.kind head.p head.size start }
-{
-    let size = head.size as usize;
-    let given = Span { at: start, size };
-    let kind = head.kind;
-    match kind {
-        1 => Edit::Change {
-            p: head.p,
-            old: given,
-            new: Span {
-                at: start + size,
-                size,
-            },
-        },
-        2 => Edit::Append(given),
-        3 => Edit::Prepend(given),
-        4 => Edit::DropFront(given),
-        _ => Edit::CutTail(given),
+    match head.tested(left - HEAD_BYTES) {
+        Ok(kind) => Opened::Record(head.edit(kind, start), start + head.body()),
+        Err(cause) => Opened::Refused(cause),
     }
 }

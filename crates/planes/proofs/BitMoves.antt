@@ -9,11 +9,11 @@ use native.Mathlib.Omega.{arith}
 use lib.Bits.{bit_and, bit_or, or_step, and_zero_r, or_zero_r, or_self, and_mask}
 use lib.Pow.{pow_pos}
 use Rattle.planes.specs.Tables.{grow, tab, at}
-use Rattle.planes.specs.Substitution.{bit, number_of_bits}
+use Rattle.planes.specs.Substitution.{bit}
 use Rattle.planes.specs.Lanes.{planes, lane, Shows, Turned, byte_of}
 use Rattle.planes.specs.declared.Planes.{Planes}
 use Rattle.planes.proofs.Tables.{get_d_tab, at_each}
-use Rattle.planes.proofs.Bits.{bit-and, bit-or, bit-lt, bit-shr, bit-mod, bit-shl, bit-shl-below, bit-beyond, byte-ext, lane-lt, lane-bit, byte_of-lt, byte-bit}
+use Rattle.planes.proofs.Bits.{from_bits-ext, bit-and, bit-or, bit-lt, bit-shr, bit-mod, bit-shl, bit-shl-below, bit-beyond, byte-ext, lane-lt, lane-bit, byte_of-lt, byte-bit}
 
 -- ---- moves
 
@@ -187,10 +187,9 @@ Goes f x y = (i : ℕ) → i < 64 → bit y i ≡ bit x (f i)
 
 -- lanes go where the bits of all planes go
 pub shows-moved :
-    (q r : Planes) (f : ℕ → ℕ) → Goes f q.p0 r.p0 → Goes f q.p1 r.p1 → Goes f q.p2 r.p2 → Goes f q.p3 r.p3
-    → Goes f q.p4 r.p4 → Goes f q.p5 r.p5 → Goes f q.p6 r.p6 → Goes f q.p7 r.p7 → Shows r (λ i. lane q (f i))
-unfolding lane number_of_bits
-shows-moved q r f g0 g1 g2 g3 g4 g5 g6 g7 i h = rw (g0 i h, g1 i h, g2 i h, g3 i h, g4 i h, g5 i h, g6 i h, g7 i h)
+    (q r : Planes) (f : ℕ → ℕ) → ((j : ℕ) → j < 8 → Goes f (at (planes q) j) (at (planes r) j)) → Shows r (λ i. lane q (f i))
+unfolding lane
+shows-moved q r f g i h = from_bits-ext 8 _ _ (λ j l. g j l i h)
 
 -- words turned into planes: lane i holds byte i / 8 of word i % 8
 pub lane-turned : (w r : Planes) → Turned w r → Shows r (λ i. byte_of (at (planes w) (i % 8)) (i / 8))

@@ -165,12 +165,9 @@ Holds s start a b c m = (p : ℕ) → p < 8 → byte_of m p ≡ at s (start + st
 module _ (s : List ℕ) where
   -- the four words of a block, each twice
   pub shows-block :
-      (a b c d : ℕ) (r : Planes) → Turned (record { p0 = a; p1 = b; p2 = c; p3 = d; p4 = a; p5 = b; p6 = c; p7 = d }) r → Holds s 0 1 2 0 a
-      → Holds s 4 1 2 0 b → Holds s 8 1 2 0 c → Holds s 12 1 2 0 d → Shows r (spread s)
+      (w r : Planes) → Turned w r → ((k : ℕ) → k < 8 → Holds s (4 * (k % 4)) 1 2 0 (at (planes w) k)) → Shows r (spread s)
   unfolding spread strided
-  shows-block a b c d r t ha hb hc hd i h =
-      let w : Planes = record { p0 = a; p1 = b; p2 = c; p3 = d; p4 = a; p5 = b; p6 = c; p7 = d } in
-      let e : (k : ℕ) → k < 8 → Holds s (4 * (k % 4)) 1 2 0 (at (planes w) k) = eight _ ha hb hc hd ha hb hc hd in
+  shows-block w r t e i h =
       lane-turned w r t i h ∙ e (i % 8) (omega arith) (i / 8) (omega arith) ∙ ap (at s) (omega arith)
 
   -- the eight words of row n of sixteen blocks

@@ -1,4 +1,5 @@
 pub mod Tables
+pub mod FromFn
 pub mod Bytes
 pub mod Bits
 pub mod BitMoves

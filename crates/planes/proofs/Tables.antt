@@ -8,6 +8,7 @@ use native.Mathlib.Nat.{not-suc-le-zero, eq-or-lt_of_le, le_of_suc-le-suc}
 use native.Mathlib.Numerals.{add-one}
 use native.Mathlib.Omega.{arith}
 use lib.ListN.{length, get_or, drop, set, length-append, length-drop, length-set, get_or-append, drop_of_length-le}
+use Rattle.std.proofs.lemmas.List.{ext_get_or}
 use lib.Seq.{get_or_at, set_at, drop-cons, append_snoc, get_or-set_same, get_or-set_other}
 use Rattle.planes.specs.Tables.{grow, tab}
 
@@ -42,6 +43,10 @@ module _ {A : Type 0} where
   unfolding tab grow
   tab-ext zero f g h = refl
   tab-ext (suc n) f g h = ap₂ (λ (l : List A) (x : A). l ++ (x ∷ [])) (tab-ext n f g (λ i k. h i (omega arith))) (h n (omega arith))
+
+  -- a list is a table by its length and its entries
+  pub tab_of : (n : ℕ) (f : ℕ → A) (d : A) (t : List A) → length t ≡ n → ((i : ℕ) → i < n → get_or t i d ≡ f i) → t ≡ tab n f
+  tab_of n f d t e h = ext_get_or d t (tab n f) (e ∙ sym (length-tab n f)) (λ i l. h i (omega arith) ∙ sym (get_d_tab n f i d (omega arith)))
 
   -- and so two functions with equal tables agree at every place of them: a fact of small numbers that is computed holds of each
   pub at_each : (n : ℕ) (f g : ℕ → A) → tab n f ≡ tab n g → (i : ℕ) → i < n → f i ≡ g i

@@ -137,7 +137,7 @@ pub fn doubled(q: Planes) -> Planes
     }
 }
 
-// The sums of bytes, lane by lane. It serves the layers above.
+// The sums of bytes, lane by lane. It serves the layers above. Written out, since no other function takes the planes of two.
 pub fn plus(a: Planes, b: Planes) -> Planes
     ensures { Shows result (λ i. xor (lane a i) (lane b i)) }
 {

@@ -3,6 +3,10 @@
 // layers above.
 #![tactic(auto)]
 
+ghost use Rattle.std.specs.Prelude.{ℕ, ◌<◌};
+ghost use Rattle.planes.specs.Tables.{at};
+ghost use Rattle.planes.specs.Lanes.{planes};
+
 mod circuits;
 mod moves;
 mod packing;
@@ -22,4 +26,40 @@ pub struct Planes {
     pub p5: u64,
     pub p6: u64,
     pub p7: u64,
+}
+
+impl Planes {
+    // Plane j is what f gives for j.
+    fn from_fn<F: Fn(usize) -> u64>(f: F) -> Planes
+        requires { (j : ℕ) → j < 8 → F.pre f j }
+        ensures { (j : ℕ) → j < 8 → F.post f j (at (planes result) j) }
+    {
+        Planes {
+            p0: f(0),
+            p1: f(1),
+            p2: f(2),
+            p3: f(3),
+            p4: f(4),
+            p5: f(5),
+            p6: f(6),
+            p7: f(7),
+        }
+    }
+
+    // What f makes of every plane.
+    fn map<F: Fn(u64) -> u64>(self, f: F) -> Planes
+        requires { F.IsAlwaysCallable f }
+        ensures { (j : ℕ) → j < 8 → F.post f (at (planes self) j) (at (planes result) j) }
+    {
+        Planes {
+            p0: f(self.p0),
+            p1: f(self.p1),
+            p2: f(self.p2),
+            p3: f(self.p3),
+            p4: f(self.p4),
+            p5: f(self.p5),
+            p6: f(self.p6),
+            p7: f(self.p7),
+        }
+    }
 }

@@ -1,5 +1,5 @@
 // Moves of bytes between lanes: every plane has its bits moved in the same way.
-ghost use Rattle.std.specs.Prelude.{◌≡◌, ℕ, ◌+◌, ◌*◌, ◌/◌, ◌%◌, ◌<◌};
+ghost use Rattle.std.specs.Prelude.{◌≡◌, ℕ, ◌+◌, ◌*◌, ◌/◌, ◌%◌, ◌^◌, ◌<◌, bit_and, bit_or};
 ghost use Rattle.planes.specs.Substitution.{bit};
 ghost use Rattle.planes.specs.Lanes.{lane, Shows, Turned};
 
@@ -18,16 +18,7 @@ pub fn rotated(q: Planes, n: u32) -> Planes
     requires { n < 64 }
     ensures { Shows result (λ i. lane q ((i + n) % 64)) }
 {
-    Planes {
-        p0: rotate(q.p0, n),
-        p1: rotate(q.p1, n),
-        p2: rotate(q.p2, n),
-        p3: rotate(q.p3, n),
-        p4: rotate(q.p4, n),
-        p5: rotate(q.p5, n),
-        p6: rotate(q.p6, n),
-        p7: rotate(q.p7, n),
-    }
+    q.map(|x| rotate(x, n))
 }
 
 // A word whose bytes have four bits twice: those of byte p move p places, p modulo 4, so that both halves of a byte have bits p to p + 3 of it.
@@ -45,16 +36,19 @@ fn slide(x: u64) -> u64
 pub fn slid(q: Planes) -> Planes
     ensures { Shows result (λ i. lane q (8 * (i / 8) + (i % 4 + i / 8 % 4))) }
 {
-    Planes {
-        p0: slide(q.p0),
-        p1: slide(q.p1),
-        p2: slide(q.p2),
-        p3: slide(q.p3),
-        p4: slide(q.p4),
-        p5: slide(q.p5),
-        p6: slide(q.p6),
-        p7: slide(q.p7),
-    }
+    q.map(|x| slide(x))
+}
+
+// Two words, of which the bits of x outside m change places with those of y in m, s places below them.
+fn exchanged(x: u64, y: u64, s: u32, m: u64) -> (u64, u64)
+    requires { s < 64 }
+    ensures first { result.0 ≡ bit_or (bit_and x m) (bit_and (y * 2 ^ s % 2 ^ 64) (m * 2 ^ s % 2 ^ 64)) }
+    ensures second { result.1 ≡ bit_or (bit_and (x / 2 ^ s) m) (bit_and y (m * 2 ^ s % 2 ^ 64)) }
+{
+    (
+        (x & m) | ((y << s) & (m << s)),
+        ((x >> s) & m) | (y & (m << s)),
+    )
 }
 
 // The planes of the bytes of eight words, byte p of word k going to lane 8p + k; or the words of planes, which is the same step. Bits change places
@@ -62,30 +56,26 @@ pub fn slid(q: Planes) -> Planes
 pub fn turned(w: Planes) -> Planes
     ensures { Turned w result }
 {
-    let a0 = (w.p0 & 0x5555_5555_5555_5555) | ((w.p1 << 1) & 0xaaaa_aaaa_aaaa_aaaa);
-    let a1 = ((w.p0 >> 1) & 0x5555_5555_5555_5555) | (w.p1 & 0xaaaa_aaaa_aaaa_aaaa);
-    let a2 = (w.p2 & 0x5555_5555_5555_5555) | ((w.p3 << 1) & 0xaaaa_aaaa_aaaa_aaaa);
-    let a3 = ((w.p2 >> 1) & 0x5555_5555_5555_5555) | (w.p3 & 0xaaaa_aaaa_aaaa_aaaa);
-    let a4 = (w.p4 & 0x5555_5555_5555_5555) | ((w.p5 << 1) & 0xaaaa_aaaa_aaaa_aaaa);
-    let a5 = ((w.p4 >> 1) & 0x5555_5555_5555_5555) | (w.p5 & 0xaaaa_aaaa_aaaa_aaaa);
-    let a6 = (w.p6 & 0x5555_5555_5555_5555) | ((w.p7 << 1) & 0xaaaa_aaaa_aaaa_aaaa);
-    let a7 = ((w.p6 >> 1) & 0x5555_5555_5555_5555) | (w.p7 & 0xaaaa_aaaa_aaaa_aaaa);
-    let b0 = (a0 & 0x3333_3333_3333_3333) | ((a2 << 2) & 0xcccc_cccc_cccc_cccc);
-    let b1 = (a1 & 0x3333_3333_3333_3333) | ((a3 << 2) & 0xcccc_cccc_cccc_cccc);
-    let b2 = ((a0 >> 2) & 0x3333_3333_3333_3333) | (a2 & 0xcccc_cccc_cccc_cccc);
-    let b3 = ((a1 >> 2) & 0x3333_3333_3333_3333) | (a3 & 0xcccc_cccc_cccc_cccc);
-    let b4 = (a4 & 0x3333_3333_3333_3333) | ((a6 << 2) & 0xcccc_cccc_cccc_cccc);
-    let b5 = (a5 & 0x3333_3333_3333_3333) | ((a7 << 2) & 0xcccc_cccc_cccc_cccc);
-    let b6 = ((a4 >> 2) & 0x3333_3333_3333_3333) | (a6 & 0xcccc_cccc_cccc_cccc);
-    let b7 = ((a5 >> 2) & 0x3333_3333_3333_3333) | (a7 & 0xcccc_cccc_cccc_cccc);
+    let (a0, a1) = exchanged(w.p0, w.p1, 1, 0x5555_5555_5555_5555);
+    let (a2, a3) = exchanged(w.p2, w.p3, 1, 0x5555_5555_5555_5555);
+    let (a4, a5) = exchanged(w.p4, w.p5, 1, 0x5555_5555_5555_5555);
+    let (a6, a7) = exchanged(w.p6, w.p7, 1, 0x5555_5555_5555_5555);
+    let (b0, b2) = exchanged(a0, a2, 2, 0x3333_3333_3333_3333);
+    let (b1, b3) = exchanged(a1, a3, 2, 0x3333_3333_3333_3333);
+    let (b4, b6) = exchanged(a4, a6, 2, 0x3333_3333_3333_3333);
+    let (b5, b7) = exchanged(a5, a7, 2, 0x3333_3333_3333_3333);
+    let (p0, p4) = exchanged(b0, b4, 4, 0x0f0f_0f0f_0f0f_0f0f);
+    let (p1, p5) = exchanged(b1, b5, 4, 0x0f0f_0f0f_0f0f_0f0f);
+    let (p2, p6) = exchanged(b2, b6, 4, 0x0f0f_0f0f_0f0f_0f0f);
+    let (p3, p7) = exchanged(b3, b7, 4, 0x0f0f_0f0f_0f0f_0f0f);
     Planes {
-        p0: (b0 & 0x0f0f_0f0f_0f0f_0f0f) | ((b4 << 4) & 0xf0f0_f0f0_f0f0_f0f0),
-        p1: (b1 & 0x0f0f_0f0f_0f0f_0f0f) | ((b5 << 4) & 0xf0f0_f0f0_f0f0_f0f0),
-        p2: (b2 & 0x0f0f_0f0f_0f0f_0f0f) | ((b6 << 4) & 0xf0f0_f0f0_f0f0_f0f0),
-        p3: (b3 & 0x0f0f_0f0f_0f0f_0f0f) | ((b7 << 4) & 0xf0f0_f0f0_f0f0_f0f0),
-        p4: ((b0 >> 4) & 0x0f0f_0f0f_0f0f_0f0f) | (b4 & 0xf0f0_f0f0_f0f0_f0f0),
-        p5: ((b1 >> 4) & 0x0f0f_0f0f_0f0f_0f0f) | (b5 & 0xf0f0_f0f0_f0f0_f0f0),
-        p6: ((b2 >> 4) & 0x0f0f_0f0f_0f0f_0f0f) | (b6 & 0xf0f0_f0f0_f0f0_f0f0),
-        p7: ((b3 >> 4) & 0x0f0f_0f0f_0f0f_0f0f) | (b7 & 0xf0f0_f0f0_f0f0_f0f0),
+        p0,
+        p1,
+        p2,
+        p3,
+        p4,
+        p5,
+        p6,
+        p7,
     }
 }

@@ -1,5 +1,5 @@
--- `capi::armfile_hash_key` meets its contract. The block's bytes are written over all sixteen (`CallLaws`).
-use Rattle.capi.proofs.CallLaws.{block_written}
+-- `capi::armfile_hash_key` meets its contract: the block's bytes are written over all sixteen (`BlockBytes`).
+use Rattle.capi.proofs.BlockBytes.{block_written}
 use borrow.Author.Rules.{rules}
 use Rattle.capi.proofs.armfile_hash_key.Goals as goal
 

@@ -1,14 +1,10 @@
 -- `capi::armfile_join` meets its contract. It is `field::join`, written where it is accepted (`CallLaws`).
-use mathlib.Core.Path.{refl}
-use Rattle.capi.proofs.CallLaws.{block_written, join_refused, join_done}
-use borrow.Author.Rules.{rules}
+use Rattle.std.proofs.Common.{rules}
+use Rattle.capi.proofs.CallLaws.{block_over, join-call}
 use Rattle.capi.proofs.armfile_join.Goals as goal
-
-pub returns-then-number-ne0 : goal.returns-then-number-ne0
-returns-then-number-ne0 c =
-    join_refused _ _ _ _ _ c.join-joined.result c.join-joined.ensures c.field_number-number.ensures c.if-number-ne0.true
+use Rattle.capi.proofs.armfile_join.Goals.{then-is_ok, else-is_ok}
 
 pub returns : goal.returns
 returns c =
-    join_done _ _ _ _ _ c.join-joined.result c.join-joined.ensures c.field_number-number.ensures c.if-number-ne0.false
-    (block_written _ _ (search rules) refl c.write.ensures)
+    join-call _ _ _ _ _ c.join-joined.result c.join-joined.ensures (search rules)
+    (elim c.if-is_ok.branch [ then-is_ok w ↦ search (rules, block_over) | else-is_ok w ↦ search rules ])

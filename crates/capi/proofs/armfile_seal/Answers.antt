@@ -1,14 +1,8 @@
--- `capi::armfile_seal` meets its contract. It is `State::seal` of the state that is read, by a law of `CallLaws` for each return.
-use borrow.Author.Rules.{rules}
-use Rattle.capi.proofs.CallLaws.{seal-call, stamped-refused, stamped_done}
+-- `capi::armfile_seal` meets its contract. It is `State::seal` of the state that is read (`CallLaws`).
+use Rattle.std.proofs.Common.{rules}
+use Rattle.capi.proofs.CallLaws.{seal-call, stamped_as}
 use Rattle.capi.proofs.armfile_seal.Goals as goal
-
-pub returns-in-Refused : goal.returns-in-Refused
-returns-in-Refused c =
-    seal-call _ _ c.decode-st.ensures c.seal-sealed.ensures
-    (stamped-refused _ _ _ c.in-Refused.is c.number.ensures)
+use Rattle.capi.proofs.armfile_seal.Goals.{then-is_ok, else-is_ok}
 
 pub returns : goal.returns
-returns c =
-    seal-call _ _ c.decode-st.ensures c.seal-sealed.ensures
-    (stamped_done _ _ _ c.in_default.is c.encode.ensures)
+returns c = seal-call _ _ c.decode-st.ensures c.seal-answer.ensures (stamped_as _ c.seal-answer.result _ _ (search rules) (elim c.if-is_ok.branch [ then-is_ok w ↦ search rules | else-is_ok w ↦ search rules ]))

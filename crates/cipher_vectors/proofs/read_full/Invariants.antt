@@ -2,8 +2,8 @@
 use Rattle.std.proofs.Common.{length, ◌-◌, ◌≤◌}
 use Rattle.cipher_vectors.proofs.read_full.Given as goal
 
-abbrev pub invariant-loop-n : goal.invariant-loop-n
-invariant-loop-n l = l.n ≤ length l.buf
+abbrev pub invariant-loop-k : goal.invariant-loop-k
+invariant-loop-k l = l.n ≤ length l.buf
 
-abbrev pub decreases-loop-n : goal.decreases-loop-n
-decreases-loop-n l = length l.buf - l.n
+abbrev pub decreases-loop-k : goal.decreases-loop-k
+decreases-loop-k l = length l.buf - l.n

@@ -1,10 +1,7 @@
--- `cipher_vectors::run` stays in the text, and counts no more blocks than it has bytes.
-use Prim.Native.Nat.{◌-◌, ◌≤◌}
-use lib.ListN.{length}
+-- `cipher_vectors::run` counts no more blocks than the lines behind it have bytes.
+use Rattle.std.proofs.Common.{length, ◌+◌, ◌≤◌}
+use Rattle.std.specs.Slice.Iter.{split_inclusive_rest}
 use Rattle.cipher_vectors.proofs.run.Given as goal
 
-abbrev pub invariant-loop-at : goal.invariant-loop-at
-invariant-loop-at g l = (l.at ≤ length l.text) × (l.blocks ≤ l.at)
-
-abbrev pub decreases-loop-at : goal.decreases-loop-at
-decreases-loop-at g l = length l.text - l.at
+abbrev pub invariant-loop-line : goal.invariant-loop-line
+invariant-loop-line l = l.blocks + length (split_inclusive_rest l.line-iterator) ≤ length l.text

@@ -4,23 +4,14 @@ use native.Mathlib.Omega.{arith}
 use Rattle.field.proofs.Refusals.{multiply_refused, multiply_fits, multiply_done}
 use Rattle.field.proofs.multiply.Goals as goal
 
-pub returns-in-Refused : goal.returns-in-Refused
-returns-in-Refused c =
-    let told = c.multiply_refusal-answer.ensures in
-    record { answer = told; output = multiply_refused _ _ _ told c.in-Refused.is }
-
-pub counted_product-requires : goal.counted_product-requires
-counted_product-requires c = omega (arith, c.none.ensures)
+pub returns-in_err-multiply_refusal-clause-output : goal.returns-in_err-multiply_refusal-clause-output
+returns-in_err-multiply_refusal-clause-output c =
+    multiply_refused _ _ _ c.multiply_refusal.ensures c.in_err-multiply_refusal.was
 
 pub write-requires : goal.write-requires
-write-requires c =
-    omega (arith, multiply_fits _ _ _ c.multiply_refusal-answer.ensures c.in_default.is)
+write-requires c = omega (arith, multiply_fits _ _ _ c.multiply_refusal.ensures c.in_ok-multiply_refusal.was)
 
-pub returns : goal.returns
-returns c =
-    let told = c.multiply_refusal-answer.ensures in
-    record {
-      answer = told;
-      output = multiply_done _ _ _ told c.in_default.is c.from_bytes.ensures c.from_bytes-2.ensures
-          c.counted_product.ensures c.write.ensures;
-    }
+pub returns-clause-output : goal.returns-clause-output
+returns-clause-output c =
+    multiply_done _ _ _ c.multiply_refusal.ensures c.in_ok-multiply_refusal.was c.from_bytes.ensures c.from_bytes-2.ensures
+    c.counted_product.ensures c.write.ensures

@@ -3,34 +3,32 @@
 use mathlib.Core.Path.{sym}
 use native.Mathlib.Omega.{arith}
 use borrow.Author.Rules.{rules}
-use Rattle.gcm.proofs.TextLaws.{turned_of, gcm_fits, decrypt_refused, decrypt_wrong, decrypt_done}
+use Rattle.gcm.proofs.TextLaws.{gcm_fits, decrypt_refused, decrypt_wrong, decrypt_done}
 use Rattle.gcm.proofs.decrypt.Goals as goal
 
-pub returns-in-Refused : goal.returns-in-Refused
-returns-in-Refused c = decrypt_refused _ _ _ _ _ _ c.gcm_refusal-answer.ensures c.in-Refused.is
+pub returns-in_err-gcm_refusal : goal.returns-in_err-gcm_refusal
+returns-in_err-gcm_refusal c = decrypt_refused _ _ _ _ _ _ _ c.from_residual.ensures.0 (search rules)
 
-pub begin-begun-requires : goal.begin-begun-requires
-begin-begun-requires c =
-    let fits = gcm_fits _ _ _ _ _ _ c.gcm_refusal-answer.ensures c.in_default.is in
-    (fits.fits, fits.short_nonce, search rules)
+pub begin-call-requires : goal.begin-call-requires
+begin-call-requires c =
+    let fits = gcm_fits _ _ _ _ _ _ c.in_ok-gcm_refusal.ensures in
+    (fits.fits, fits.short_nonce)
 
 pub tag_fits-requires : goal.tag_fits-requires
 tag_fits-requires c =
-    let fits = gcm_fits _ _ _ _ _ _ c.gcm_refusal-answer.ensures c.in_default.is in
-    (fits.size, omega (arith, c.begin-begun.auto.rows), fits.short, omega (arith, fits.short_text))
+    let fits = gcm_fits _ _ _ _ _ _ c.in_ok-gcm_refusal.ensures in
+    (fits.size, fits.short, omega (arith, fits.short_text))
 
 pub returns-then-not-tag_fits : goal.returns-then-not-tag_fits
 returns-then-not-tag_fits c =
-    decrypt_wrong _ _ _ _ _ _ c.gcm_refusal-answer.ensures c.in_default.is
-    (c.tag_fits.ensures _ _ c.begin-begun.ensures) c.if-not-tag_fits.true
+    decrypt_wrong _ _ _ _ _ _ c.in_ok-gcm_refusal.ensures (rw c.begin-call.ensures at c.tag_fits.ensures) c.if-not-tag_fits.true
 
-pub gctr-requires : goal.gctr-requires
-gctr-requires c =
-    let fits = gcm_fits _ _ _ _ _ _ c.gcm_refusal-answer.ensures c.in_default.is in
-    (omega (arith, c.begin-begun.auto.rows), omega (arith, fits.short_text), sym fits.same)
+pub turn-requires : goal.turn-requires
+turn-requires c =
+    let fits = gcm_fits _ _ _ _ _ _ c.in_ok-gcm_refusal.ensures in
+    (omega (arith, fits.short_text), sym fits.same)
 
 pub returns : goal.returns
 returns c =
-    decrypt_done _ _ _ _ _ _ c.gcm_refusal-answer.ensures c.in_default.is
-    (c.tag_fits.ensures _ _ c.begin-begun.ensures) c.if-not-tag_fits.false
-    (turned_of c.begin-begun.ensures _ c.gctr.ensures)
+    decrypt_done _ _ _ _ _ _ c.in_ok-gcm_refusal.ensures (rw c.begin-call.ensures at c.tag_fits.ensures) c.if-not-tag_fits.false
+    (rw c.begin-call.ensures at c.turn.ensures)

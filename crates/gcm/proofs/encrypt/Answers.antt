@@ -3,35 +3,31 @@
 use mathlib.Core.Path.{sym}
 use native.Mathlib.Omega.{arith}
 use borrow.Author.Rules.{rules}
-use Rattle.gcm.proofs.TextLaws.{turned_of, gcm_fits, encrypt_refused, encrypt_done}
+use Rattle.gcm.proofs.TextLaws.{gcm_fits, encrypt_refused, encrypt_done}
 use Rattle.gcm.proofs.encrypt.Goals as goal
 
-pub returns-in-Refused : goal.returns-in-Refused
-returns-in-Refused c = encrypt_refused _ _ _ _ _ _ c.gcm_refusal-answer.ensures c.in-Refused.is
+pub returns-in_err-gcm_refusal : goal.returns-in_err-gcm_refusal
+returns-in_err-gcm_refusal c = encrypt_refused _ _ _ _ _ _ _ c.from_residual.ensures.0 (search rules)
 
-pub begin-begun-requires : goal.begin-begun-requires
-begin-begun-requires c =
-    let fits = gcm_fits _ _ _ _ _ _ c.gcm_refusal-answer.ensures c.in_default.is in
-    (fits.fits, fits.short_nonce, search rules)
+pub begin-call-requires : goal.begin-call-requires
+begin-call-requires c =
+    let fits = gcm_fits _ _ _ _ _ _ c.in_ok-gcm_refusal.ensures in
+    (fits.fits, fits.short_nonce)
 
-pub gctr-requires : goal.gctr-requires
-gctr-requires c =
-    let fits = gcm_fits _ _ _ _ _ _ c.gcm_refusal-answer.ensures c.in_default.is in
-    (omega (arith, c.begin-begun.auto.rows), omega (arith, fits.short_text), sym fits.same)
+pub turn-requires : goal.turn-requires
+turn-requires c =
+    let fits = gcm_fits _ _ _ _ _ _ c.in_ok-gcm_refusal.ensures in
+    (omega (arith, fits.short_text), sym fits.same)
 
-pub text_tag-requires : goal.text_tag-requires
-text_tag-requires c =
-    let fits = gcm_fits _ _ _ _ _ _ c.gcm_refusal-answer.ensures c.in_default.is in (
-      omega (arith, c.begin-begun.auto.rows),
-      fits.short,
-      omega (arith, fits.short_text, fits.same, c.gctr.auto.out),
-    )
+pub tag-requires : goal.tag-requires
+tag-requires c =
+    let fits = gcm_fits _ _ _ _ _ _ c.in_ok-gcm_refusal.ensures in
+    (fits.short, omega (arith, fits.short_text, fits.same, c.turn.auto.out))
 
 pub write-requires : goal.write-requires
-write-requires c =
-    omega (arith, (gcm_fits _ _ _ _ _ _ c.gcm_refusal-answer.ensures c.in_default.is).size)
+write-requires c = omega (arith, (gcm_fits _ _ _ _ _ _ c.in_ok-gcm_refusal.ensures).size)
 
 pub returns : goal.returns
 returns c =
-    encrypt_done _ _ _ _ _ _ c.gcm_refusal-answer.ensures _ c.in_default.is
-    (turned_of c.begin-begun.ensures _ c.gctr.ensures) (c.text_tag.ensures _ _ c.begin-begun.ensures) c.write.ensures
+    encrypt_done _ _ _ _ _ _ c.in_ok-gcm_refusal.ensures _ (rw c.begin-call.ensures at c.turn.ensures) (rw c.begin-call.ensures at c.tag.ensures)
+    c.write.ensures

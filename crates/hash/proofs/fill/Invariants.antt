@@ -3,7 +3,7 @@ use Rattle.std.proofs.Common.{length, ◌≡◌, ◌+◌, ◌-◌, ◌≤◌}
 use Rattle.hash.proofs.fill.Given as goal
 
 abbrev pub invariant-loop-n : goal.invariant-loop-n
-invariant-loop-n l = (l.n ≤ length l.buf) × (l.source.n ≡ l.fn.input.n + l.n)
+invariant-loop-n l = (l.n ≤ length l.buf) × (l.input.n ≡ l.fn.input.n + l.n)
 
 abbrev pub decreases-loop-n : goal.decreases-loop-n
 decreases-loop-n l = length l.buf - l.n

@@ -5,8 +5,8 @@ use Rattle.field.specs.Field.{max_bytes}
 use Rattle.hash.proofs.ReadingLaws.{Between}
 use Rattle.hash.proofs.hash_file.Given as goal
 
-abbrev pub invariant-loop-h : goal.invariant-loop-h
-invariant-loop-h l = Between l.source l.h l.stream l.buf
+abbrev pub invariant-loop-n : goal.invariant-loop-n
+invariant-loop-n l = Between l.input l.h l.stream l.buf
 
-abbrev pub decreases-loop-h : goal.decreases-loop-h
-decreases-loop-h l = max_bytes - l.stream.n
+abbrev pub decreases-loop-n : goal.decreases-loop-n
+decreases-loop-n l = max_bytes - l.stream.n

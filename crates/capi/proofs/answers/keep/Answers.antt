@@ -1,11 +1,10 @@
--- `capi::answers::keep` meets its contract. Each return by its own law of `CallLaws`: a refusal, and the work done.
-use borrow.Author.Rules.{rules}
-use Rattle.capi.proofs.CallLaws.{kept_refused, kept_done}
+-- `capi::answers::keep` meets its contract (`CallLaws`).
+use Rattle.std.proofs.Common.{rules}
+use Rattle.capi.proofs.CallLaws.{kept_as}
 use Rattle.capi.proofs.answers.keep.Goals as goal
+use Rattle.capi.proofs.answers.keep.Goals.{in-Ok, in_default}
 
-pub returns-in-Refused : goal.returns-in-Refused
-returns-in-Refused c = kept_refused _ _ _ c.in-Refused.is c.number.ensures
-
-pub returns-in-Done : goal.returns-in-Done
-returns-in-Done c =
-    kept_done _ _ _ c.in-Done.is c.encode.ensures c.number-in-Done.ensures
+pub returns : goal.returns
+returns c =
+    kept_as _ c.args.answer _ _ (elim c.match-answer.branch [ in-Ok w ↦ search rules | in_default w ↦ search rules ])
+    (elim c.match-answer.branch [ in-Ok w ↦ search rules | in_default w ↦ search rules ])

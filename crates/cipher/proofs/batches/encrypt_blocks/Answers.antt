@@ -1,36 +1,23 @@
--- `cipher::batches::encrypt_blocks` meets its contract. The loop's invariant: the blocks before `at` are replaced.
-use mathlib.Core.Path.{refl}
-use Rattle.cipher.proofs.ManyBlocks.{length_each, replaced_start, replaced-length, replaced_done, portion_size, portion_room, portion_next}
+-- `cipher::batches::encrypt_blocks` meets its contract. The invariant of both loops: the blocks before the loop's place are replaced.
+use Rattle.std.proofs.Common.{rules}
+use Prim.Native.Nat.{◌+◌, ◌-◌, ◌*◌}
+use lib.ListN.{take, drop}
+use mathlib.Core.Path.{◌≡◌, refl, ◌∙◌}
 use native.Mathlib.Omega.{arith}
+use Rattle.cipher.proofs.ManyBlocks.{length_each, replaced_start, part_next, block_next}
 use Rattle.cipher.proofs.batches.encrypt_blocks.Goals as goal
 
-pub loop-at-init : goal.loop-at-init
-loop-at-init c = (replaced_start _ _ (length_each _ _), refl)
+pub loop-i-init : goal.loop-i-init
+loop-i-init c = replaced_start _ _ (length_each _ _)
 
-pub overflow_add-next : goal.overflow_add-next
-overflow_add-next c =
-    let done = c.loop-at.invariant.0 in
-    omega (arith, replaced-length done, portion_room _ done c.loop-at.invariant.1 c.requires.1 c.loop-at-test.true c.portion.ensures)
+pub loop-i-preserved : goal.loop-i-preserved
+loop-i-preserved c =
+    let sixteen : c.unwrap.result.now ≡ take (256 * c.loop-i.i + 256 - 256 * c.loop-i.i) (drop (256 * c.loop-i.i) c.loop-i.blocks) = search rules in
+    part_next _ c.loop-i.invariant 256 _ (omega arith) (omega arith) refl (omega arith) _ (omega arith)
+    (c.copy_from_slice.ensures.after ∙ c.encrypt_sixteen.ensures ∙ rw sixteen refl)
 
-pub encrypt_portion-requires : goal.encrypt_portion-requires
-encrypt_portion-requires c = record {
-  in_bounds = c.requires.0;
-  blocks_len = portion_size c.portion.ensures _ c.loop-at.at (omega arith);
-}
-
-pub loop-at-smaller : goal.loop-at-smaller
-loop-at-smaller c =
-    omega (arith, c.portion.ensures.some, c.loop-at-test.true, replaced-length c.loop-at.invariant.0)
-
-pub loop-at-preserved : goal.loop-at-preserved
-loop-at-preserved c = (
-  portion_next _ c.loop-at.invariant.0 c.loop-at.invariant.1 c.requires.1 c.loop-at-test.true c.portion.ensures _ refl
-      c.encrypt_portion.ensures,
-  omega (arith, c.loop-at.invariant.1, c.portion.ensures.whole),
-)
-
-pub shape_of-blocks : goal.shape_of-blocks
-shape_of-blocks c = replaced-length c.loop-at.invariant.0
-
-pub returns : goal.returns
-returns c = replaced_done c.loop-at.invariant.0 (omega (arith, replaced-length c.loop-at.invariant.0, c.loop-at-test.false))
+pub loop-i-2-preserved : goal.loop-i-2-preserved
+loop-i-2-preserved c =
+    let block : c.unwrap-in-loop-i-2.result.now ≡ take (16 * c.loop-i-2.i + 16 - 16 * c.loop-i-2.i) (drop (16 * c.loop-i-2.i) c.loop-i-2.blocks) = search rules in
+    block_next _ c.loop-i-2.invariant 16 _ (omega arith) (omega arith) refl (omega arith) _ refl (omega arith)
+    (c.copy_from_slice-in-loop-i-2.ensures.after ∙ c.cipher.ensures ∙ rw block refl)

@@ -9,24 +9,11 @@ use Rattle.cipher.proofs.schedule.fill.Goals as goal
 pub loop-r-init : goal.loop-r-init
 loop-r-init c = filled_start _ _ _ refl
 
-pub row_at-row-requires : goal.row_at-row-requires
-row_at-row-requires c = record {
-  expands = omega (arith, filled-length c.loop-r.invariant);
-  r_in_bounds = omega arith;
-  by_index = λ j h. filled-entry j [] c.loop-r.invariant h;
-}
-
-pub offset_bounds-rows-r : goal.offset_bounds-rows-r
-offset_bounds-rows-r c = omega (arith, filled-length c.loop-r.invariant, c.requires)
-
-pub loop-r-smaller : goal.loop-r-smaller
-loop-r-smaller c = omega (arith, filled-length c.loop-r.invariant)
+pub row_at-requires-clause-by_index : goal.row_at-requires-clause-by_index
+row_at-requires-clause-by_index c = λ j h. filled-entry j [] c.loop-r.invariant h
 
 pub loop-r-preserved : goal.loop-r-preserved
-loop-r-preserved c = filled_next _ c.loop-r.invariant (omega (arith, filled-length c.loop-r.invariant)) c.row_at-row.ensures
-
-pub shape_of-rows : goal.shape_of-rows
-shape_of-rows c = filled-length c.loop-r.invariant
+loop-r-preserved c = filled_next _ c.loop-r.invariant (omega (arith, filled-length c.loop-r.invariant)) c.row_at.ensures
 
 pub returns : goal.returns
 unfolding tab

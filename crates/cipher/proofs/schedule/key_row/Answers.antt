@@ -1,16 +1,16 @@
--- `cipher::schedule::key_row` meets its contract. The loop's invariant: the first i bytes are the key's.
-use Rattle.planes.proofs.Tables.{filled_start, filled_next, filled_done}
-use Rattle.planes.specs.Tables.{tab}
+-- `cipher::schedule::key_row` meets its contract. Sixteen bytes of a list from a place on.
+use mathlib.Core.Path.{◌≡◌, sym, ◌∙◌}
+use Prim.Native.Nat.{◌+◌, ◌*◌, ◌-◌}
+use lib.ListN.{take, drop}
+use Rattle.std.proofs.Common.{rules}
 use native.Mathlib.Omega.{arith}
-use mathlib.Core.Path.{refl}
+use Rattle.cipher.proofs.SixteenStates.{sixteen_at}
 use Rattle.cipher.proofs.schedule.key_row.Goals as goal
 
-pub loop-i-init : goal.loop-i-init
-loop-i-init c = filled_start _ 16 _ refl
-
-pub loop-i-preserved : goal.loop-i-preserved
-loop-i-preserved c = filled_next _ c.loop-i.invariant (omega arith) refl
-
 pub returns : goal.returns
-unfolding tab
-returns c = filled_done c.loop-i.invariant (omega arith)
+returns c =
+    let key = c.args.key.now in
+    let n = 16 * c.args.r in
+    let size : n + 16 - n ≡ 16 = omega arith in
+    let row : c.unwrap.result.now ≡ take (n + 16 - n) (drop n key) = search rules in
+    row ∙ rw size (sym (sixteen_at key n c.requires))

@@ -1,16 +1,17 @@
--- `clmul::halves::added` meets its contract: each of the nine products is added (`WordLaws`).
-use Rattle.clmul.proofs.WordLaws.{added-words}
+-- `clmul::halves::added` meets its contract: each of the nine products is added.
+use mathlib.Core.Path.{◌≡◌}
+use Prim.Native.Nat.{◌*◌, ◌%◌, ◌^◌}
+use lib.ListN.{get_or}
+use Rattle.std.proofs.Common.{rules}
+use Rattle.clmul.specs.Xor.{xor}
+use Rattle.clmul.specs.Halves.{added_to}
+use Rattle.clmul.proofs.Columns.{listed_of}
+use Rattle.clmul.proofs.FromFn.{each_made}
 use Rattle.clmul.proofs.halves.added.Goals as goal
 
 pub returns : goal.returns
+unfolding added_to xor
 returns c =
-    added-words _ _ _
-    c.low_product.ensures
-    c.low_product-2.ensures
-    c.low_product-3.ensures
-    c.low_product-4.ensures
-    c.low_product-5.ensures
-    c.low_product-6.ensures
-    c.low_product-7.ensures
-    c.low_product-8.ensures
-    c.low_product-9.ensures
+    listed_of _ 9 _ c.from_fn.ensures.items.long (λ j l.
+    each_made _ _ (λ k v. v ≡ xor (get_or c.args.t k 0) (get_or c.args.x k 0 % 2 ^ 32 * (get_or c.args.y k 0 % 2 ^ 32)))
+    (λ k v f' s. search rules) c.from_fn.ensures.items j 0 l)

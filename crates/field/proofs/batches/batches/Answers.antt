@@ -1,13 +1,16 @@
--- `field::batches::batches` meets its contract. The loop's invariant is `Batched` of `BatchLaws`: y is Y after i batches.
+-- `field::batches::batches` meets its contract. The loop's invariant: y is Y after i batches.
+use mathlib.Core.Path.{ap, ◌∙◌}
+use Prim.Native.Nat.{ℕ, ◌*◌}
 use native.Mathlib.Omega.{arith}
-use Rattle.field.proofs.BatchLaws.{batched_start, batched_next, batched_done}
+use Rattle.field.specs.Ghash.{Yᵢ}
+use Rattle.field.proofs.BatchLaws.{batched_start, batched_next}
 use Rattle.field.proofs.batches.batches.Goals as goal
 
 pub loop-i-init : goal.loop-i-init
-loop-i-init c = batched_start _ _ _ _
+loop-i-init c = batched_start _ _ _
 
 pub loop-i-preserved : goal.loop-i-preserved
-loop-i-preserved c = batched_next c.loop-i.invariant (omega arith) c.batch-y.ensures
+loop-i-preserved c = batched_next _ _ _ _ c.loop-i.invariant (c.batch-y.ensures c.args.h c.fill_powers.ensures)
 
 pub returns : goal.returns
-returns c = batched_done c.loop-i.invariant _ c.power_table-t.ensures (omega arith)
+returns c = c.loop-i.invariant ∙ ap (λ (j : ℕ). Yᵢ c.args.h c.args.start c.args.s.now (16 * j)) (omega arith)

@@ -11,9 +11,6 @@ pub loop-k-init : goal.loop-k-init
 unfolding zero_block block
 loop-k-init c = raising_start _ _ (record { hi = omega arith; lo = omega arith }) refl refl
 
-pub counted_product-requires : goal.counted_product-requires
-counted_product-requires c = omega (arith, c.none.ensures)
-
 pub loop-k-preserved : goal.loop-k-preserved
 unfolding zero_block block
 loop-k-preserved c =
@@ -22,4 +19,4 @@ loop-k-preserved c =
 
 pub returns : goal.returns
 unfolding zero_block block
-returns c = raising_done c.loop-k.invariant (omega arith) refl c.squared-last.ensures
+returns c = raising_done c.loop-k.invariant (omega arith) refl c.squared.ensures

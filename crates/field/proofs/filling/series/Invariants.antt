@@ -5,6 +5,3 @@ use Rattle.field.proofs.filling.series.Given as goal
 
 abbrev pub invariant-loop-left : goal.invariant-loop-left
 invariant-loop-left l = Building l.h l.k l.initial.s.count l.s l.left
-
-abbrev pub decreases-loop-left : goal.decreases-loop-left
-decreases-loop-left l = l.left

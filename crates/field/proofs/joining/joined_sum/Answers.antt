@@ -1,5 +1,4 @@
 -- `field::joining::joined_sum` meets its contract. The loop's invariant is `Joining` of `Parts`.
-use native.Mathlib.Omega.{arith}
 use Rattle.field.specs.Blocks.{zero_block, block}
 use Rattle.field.proofs.Parts.{joining_start, joining_next, joining_done}
 use Rattle.field.proofs.joining.joined_sum.Goals as goal
@@ -7,12 +6,6 @@ use Rattle.field.proofs.joining.joined_sum.Goals as goal
 pub loop-i-init : goal.loop-i-init
 unfolding zero_block block
 loop-i-init c = joining_start _ _ _
-
-pub times_power-front-requires : goal.times_power-front-requires
-times_power-front-requires c = omega (arith, c.none.ensures)
-
-pub load-requires : goal.load-requires
-load-requires c = omega (arith, c.requires, c.loop-i-test.true)
 
 pub loop-i-preserved : goal.loop-i-preserved
 loop-i-preserved c =

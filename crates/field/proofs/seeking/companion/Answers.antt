@@ -7,17 +7,14 @@ use Rattle.field.specs.Blocks.{one, block}
 use Rattle.field.proofs.Seek.{doubling_start, doubling_next, doubling_done}
 use Rattle.field.proofs.seeking.companion.Goals as goal
 
-pub loop-j-init : goal.loop-j-init
+pub loop-init : goal.loop-init
 unfolding one block
-loop-j-init c = doubling_start _ (record { hi = omega arith; lo = omega arith })
+loop-init c = doubling_start _ (record { hi = omega arith; lo = omega arith })
 
-pub counted_product-next-requires : goal.counted_product-next-requires
-counted_product-next-requires c = omega (arith, c.none.ensures)
-
-pub loop-j-preserved : goal.loop-j-preserved
-loop-j-preserved c =
-    doubling_next c.loop-j.invariant (omega arith) c.squared-x.ensures
-    (ap (λ (r : Counted). r.value) c.counted_product-next.ensures)
+pub loop-preserved : goal.loop-preserved
+loop-preserved c =
+    doubling_next c.loop.invariant (omega arith) c.squared-x.ensures
+    (ap (λ (r : Counted). r.value) c.counted_product.ensures)
 
 pub returns : goal.returns
-returns c = doubling_done c.loop-j.invariant (omega arith)
+returns c = doubling_done c.loop.invariant (omega arith)

@@ -3,10 +3,6 @@ use native.Mathlib.Omega.{arith}
 use Rattle.field.specs.Sums.{blocks}
 use Rattle.field.proofs.summing.blocks.Goals as goal
 
-pub returns-then-n-eq0 : goal.returns-then-n-eq0
-unfolding blocks
-returns-then-n-eq0 c = omega arith
-
 pub returns : goal.returns
 unfolding blocks
-returns c = omega arith
+returns c = omega (arith, c.div_ceil.ensures)

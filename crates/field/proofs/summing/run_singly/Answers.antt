@@ -6,9 +6,9 @@ use Rattle.field.specs.Sums.{blocks}
 use Rattle.field.proofs.Folds.{folded}
 use Rattle.field.proofs.summing.run_singly.Goals as goal
 
-pub fold-y-requires : goal.fold-y-requires
+pub fold-requires : goal.fold-requires
 unfolding blocks
-fold-y-requires c = omega (arith, c.none.ensures)
+fold-requires c = omega (arith, c.none.ensures)
 
 pub returns : goal.returns
-returns c = folded _ _ _ _ c.blocks-q.ensures (ap (λ (r : Counted). r.value) c.fold-y.ensures)
+returns c = folded _ _ _ _ c.blocks-q.ensures (ap (λ (r : Counted). r.value) c.fold.ensures)

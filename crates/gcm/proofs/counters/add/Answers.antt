@@ -1,19 +1,10 @@
 -- `gcm::counters::add` meets its contract. The loop's invariant: the first k bytes of the sum are written (`Batches`).
 use native.Mathlib.Omega.{arith}
-use Rattle.field.proofs.Stores.{copied_none}
 use Rattle.gcm.proofs.Batches.{added_next, added_done}
 use Rattle.gcm.proofs.counters.add.Goals as goal
 
-pub loop-k-init : goal.loop-k-init
-loop-k-init c = copied_none _ _ _
-
 pub loop-k-preserved : goal.loop-k-preserved
-loop-k-preserved c =
-    added_next _ _ _ _ c.requires.0 c.requires.1 c.loop-k.invariant c.loop-k-test.true
-
-pub shape_of-out : goal.shape_of-out
-shape_of-out c = c.loop-k.invariant.size
+loop-k-preserved c = added_next _ _ c.requires.0 c.loop-k.invariant (omega arith)
 
 pub returns : goal.returns
-returns c =
-    added_done _ _ _ _ c.requires.0 c.requires.1 c.loop-k.invariant (omega arith)
+returns c = added_done _ _ c.requires.0 c.loop-k.invariant (omega arith) (omega arith)

@@ -1,11 +1,7 @@
 -- `gcm::counters::add` meets its contract. The loop's invariant: the first k bytes of the sum are written (`Batches`).
-use Prim.Native.Nat.{◌-◌}
+use Rattle.field.specs.Field.{xor_bytes}
 use Rattle.field.proofs.Stores.{Copied}
-use Rattle.gcm.proofs.Batches.{added}
 use Rattle.gcm.proofs.counters.add.Given as goal
 
 abbrev pub invariant-loop-k : goal.invariant-loop-k
-invariant-loop-k l = Copied l.initial.out l.at (added l.text l.pad l.at l.n) l.out l.k
-
-abbrev pub decreases-loop-k : goal.decreases-loop-k
-decreases-loop-k l = l.n - l.k
+invariant-loop-k l = Copied l.initial.out 0 (xor_bytes l.text l.pad) l.out l.k

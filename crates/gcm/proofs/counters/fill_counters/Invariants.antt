@@ -1,11 +1,9 @@
--- `gcm::counters::fill_counters` meets its contract. The loop's invariant: the counter blocks before `at` are written (`Batches`).
-use Prim.Native.Nat.{◌-◌}
-use lib.ListN.{length}
-use Rattle.gcm.proofs.Batches.{Counting}
+-- `gcm::counters::fill_counters` meets its contract. The loop's invariant: i counter blocks are written (`Batches`).
+use Prim.Native.Nat.{◌*◌}
+use Rattle.field.specs.Field.{bytes_of}
+use Rattle.field.proofs.Stores.{Stored}
+use Rattle.gcm.specs.Clauses.{counters}
 use Rattle.gcm.proofs.counters.fill_counters.Given as goal
 
-abbrev pub invariant-loop-at : goal.invariant-loop-at
-invariant-loop-at l = Counting l.j l.first l.initial.pad l.at l.i l.pad
-
-abbrev pub decreases-loop-at : goal.decreases-loop-at
-decreases-loop-at l = length l.initial.pad - l.at
+abbrev pub invariant-loop-i : goal.invariant-loop-i
+invariant-loop-i l = Stored l.initial.pad 0 (counters (bytes_of l.j) l.first l.i) (16 * l.i) l.pad

@@ -3,4 +3,4 @@ use Rattle.gcm.proofs.TagLaws.{hash-key_of}
 use Rattle.gcm.proofs.tags.hash_key.Goals as goal
 
 pub returns : goal.returns
-returns c = hash-key_of _ c.encrypt-h.ensures c.from_bytes.ensures
+returns c = hash-key_of _ c.encrypt.ensures c.from_bytes.ensures

@@ -4,4 +4,4 @@ use Rattle.gcm.proofs.tags.pad.Goals as goal
 
 pub returns : goal.returns
 returns c =
-    pad_of _ _ _ c.nonce_block-j.ensures c.encrypt-p.ensures c.from_bytes.ensures
+    pad_of _ _ _ c.nonce_block.ensures c.encrypt.ensures c.from_bytes.ensures

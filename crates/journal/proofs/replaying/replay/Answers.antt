@@ -1,18 +1,7 @@
--- `journal::replaying::replay` meets its contract: a journal that is refused as a whole is not applied (`ReplayLaws`).
-use mathlib.Core.Path.{◌∙◌}
-use borrow.Author.Rules.{rules}
-use Rattle.journal.proofs.PlaceLaws.{passed, whole_passed}
-use Rattle.journal.proofs.ReplayLaws.{replayed-refused, replayed-all}
+-- `journal::replaying::replay` meets its contract: it is a walk whose edits a state takes (`ReplayLaws`).
+use mathlib.Core.Path.{ap, ◌∙◌}
+use Rattle.journal.proofs.ReplayLaws.{replay_of, replays}
 use Rattle.journal.proofs.replaying.replay.Goals as goal
 
-pub returns-in-Refused : goal.returns-in-Refused
-returns-in-Refused c = c.stopped.ensures ∙ replayed-refused _ _ c.replay_refusal-answer.ensures c.in-Refused.is
-
-pub replay_records-requires : goal.replay_records-requires
-replay_records-requires c =
-    let n = c.args.state.n in
-    (passed n _ (whole_passed n _ c.replay_refusal-answer.ensures c.in_default.is)).1
-
 pub returns : goal.returns
-returns c =
-    replayed-all _ _ c.replay_refusal-answer.ensures c.in_default.is c.replay_records.ensures
+returns c = rw c.new-walk.ensures.0 at (ap replay_of c.run-answer.ensures ∙ replays c.args.state.now _)

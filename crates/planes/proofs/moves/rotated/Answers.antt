@@ -1,15 +1,7 @@
 -- `planes::moves::rotated` meets its contract: the bits of all eight planes move in the same way, as `rotate` ensures.
+use Rattle.std.proofs.Common.{rules}
 use Rattle.planes.proofs.BitMoves.{shows-moved}
 use Rattle.planes.proofs.moves.rotated.Goals as goal
 
 pub returns : goal.returns
-returns c =
-    shows-moved _ _ _
-    c.rotate.ensures
-    c.rotate-2.ensures
-    c.rotate-3.ensures
-    c.rotate-4.ensures
-    c.rotate-5.ensures
-    c.rotate-6.ensures
-    c.rotate-7.ensures
-    c.rotate-8.ensures
+returns c = shows-moved _ _ _ (λ j h. let moved = c.map.ensures j h in search rules)

@@ -1,15 +1,7 @@
 -- `planes::moves::slid` meets its contract: the bits of all eight planes move in the same way, as `slide` ensures.
+use Rattle.std.proofs.Common.{rules}
 use Rattle.planes.proofs.BitMoves.{shows-moved}
 use Rattle.planes.proofs.moves.slid.Goals as goal
 
 pub returns : goal.returns
-returns c =
-    shows-moved _ _ _
-    c.slide.ensures
-    c.slide-2.ensures
-    c.slide-3.ensures
-    c.slide-4.ensures
-    c.slide-5.ensures
-    c.slide-6.ensures
-    c.slide-7.ensures
-    c.slide-8.ensures
+returns c = shows-moved _ _ _ (λ j h. let moved = c.map.ensures j h in search rules)

@@ -1,18 +1,9 @@
--- `planes::packing::block_of` meets its contract. The loop's invariant: the first i bytes are those of the rows' words.
-use Rattle.planes.proofs.Tables.{filled_start, filled_next, filled_done}
+-- `planes::packing::block_of` meets its contract: the bytes are those of the rows' words. Rests on Tables.
+use Rattle.std.proofs.Common.{rules}
 use Rattle.planes.specs.Lanes.{byte_of}
-use Rattle.planes.specs.Tables.{tab}
-use native.Mathlib.Omega.{arith}
-use mathlib.Core.Path.{refl}
+use Rattle.planes.proofs.FromFn.{tab_made}
 use Rattle.planes.proofs.packing.block_of.Goals as goal
 
-pub loop-i-init : goal.loop-i-init
-loop-i-init c = filled_start _ 16 _ refl
-
-pub loop-i-preserved : goal.loop-i-preserved
-unfolding byte_of
-loop-i-preserved c = filled_next _ c.loop-i.invariant (omega arith) refl
-
 pub returns : goal.returns
-unfolding tab
-returns c = filled_done c.loop-i.invariant (omega arith)
+unfolding byte_of
+returns c = tab_made _ _ _ (λ i y f' k. search rules) 16 0 _ c.from_fn.ensures.items

@@ -8,6 +8,3 @@ use Rattle.planes.proofs.packing.gathered.Given as goal
 
 abbrev pub invariant-loop-p : goal.invariant-loop-p
 invariant-loop-p l = Gathered (λ k. at l.s (l.start + strided l.a l.b l.c k)) l.n l.p × Steps l.a l.b l.c (l.p - 1)
-
-abbrev pub decreases-loop-p : goal.decreases-loop-p
-decreases-loop-p l = l.p

@@ -1,21 +1,15 @@
--- `planes::packing::unpacked` meets its contract. The loop's invariant: the first i bytes are those of the words. Rests on Tables.
-use Rattle.planes.proofs.Tables.{filled_start, filled_next, filled_done, tab-ext}
-use Rattle.planes.specs.Lanes.{byte_of}
-use Rattle.planes.specs.Tables.{tab}
-use native.Mathlib.Omega.{arith}
-use mathlib.Core.Path.{refl, ◌∙◌}
+-- `planes::packing::unpacked` meets its contract: the bytes are those of the words. Rests on Tables.
+use mathlib.Core.Path.{◌∙◌}
 use Prim.Native.Nat.{◌/◌, ◌%◌}
+use native.Mathlib.Omega.{arith}
+use Rattle.std.proofs.Common.{rules}
+use Rattle.planes.specs.Lanes.{byte_of}
+use Rattle.planes.proofs.Tables.{tab-ext}
+use Rattle.planes.proofs.FromFn.{tab_made}
 use Rattle.planes.proofs.packing.unpacked.Goals as goal
 
-pub loop-i-init : goal.loop-i-init
-loop-i-init c = filled_start _ 16 _ refl
-
-pub loop-i-preserved : goal.loop-i-preserved
-unfolding byte_of
-loop-i-preserved c = filled_next _ c.loop-i.invariant (omega arith) refl
-
 pub returns : goal.returns
-unfolding tab
+unfolding byte_of
 returns c =
-    filled_done c.loop-i.invariant (omega arith)
+    tab_made _ _ _ (λ i y f' k. search rules) 16 0 _ c.from_fn.ensures.items
     ∙ tab-ext 16 _ _ (λ i h. c.words-w.ensures (i / 4) (i % 4) (omega arith) (omega arith))

@@ -4,4 +4,4 @@ use mathlib.Core.Path.{◌∙◌}
 use Rattle.cipher.proofs.keys.Key.encrypt.Goals as goal
 
 pub returns : goal.returns
-returns c = c.cipher.ensures ∙ aes-rows _ _ _ c.expand-rows.ensures
+returns c = c.cipher.ensures ∙ aes-rows _ _ _ c.expand.ensures

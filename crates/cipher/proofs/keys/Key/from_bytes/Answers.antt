@@ -2,5 +2,5 @@
 use Rattle.cipher.proofs.AesLaws.{fits-length}
 use Rattle.cipher.proofs.keys.Key.from_bytes.Goals as goal
 
-pub sixteen-bytes-requires : goal.sixteen-bytes-requires
-sixteen-bytes-requires c = fits-length _ c.requires
+pub unwrap-requires : goal.unwrap-requires
+unwrap-requires c = c.as_array.ensures.variant.1 (fits-length _ c.requires)

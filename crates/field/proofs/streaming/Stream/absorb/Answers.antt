@@ -8,4 +8,4 @@ pub returns : goal.returns
 unfolding absorbed
 returns c =
     let args = c.args in
-    λ i. record { h = args.self.h; y = c.run-y.ensures i; n = args.self.n + length args.chunk.now }
+    λ i. record { h = args.self.h; y = c.run.ensures i; n = args.self.n + length args.chunk.now }

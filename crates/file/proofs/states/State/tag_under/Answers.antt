@@ -4,4 +4,4 @@ use Rattle.file.proofs.states.State.tag_under.Goals as goal
 
 pub returns : goal.returns
 returns c =
-    state-tag c.args.self _ _ c.store.ensures c.store-2.ensures c.tag.ensures
+    state-tag c.args.self.now _ _ c.store.ensures c.store-2.ensures c.tag.ensures

@@ -1,7 +1,0 @@
--- `capi::armfile_append` meets its contract. It is `State::append` of the state that is read, kept where it is accepted (`CallLaws`).
-use borrow.Author.Rules.{rules}
-use Rattle.capi.proofs.CallLaws.{edit-call}
-use Rattle.capi.proofs.armfile_append.Goals as goal
-
-pub returns : goal.returns
-returns c = edit-call _ _ _ c.decode-st.ensures c.append.ensures c.keep.ensures

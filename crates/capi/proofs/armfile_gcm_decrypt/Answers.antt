@@ -1,6 +1,0 @@
--- `capi::armfile_gcm_decrypt` meets its contract. It is gcm's call, its answer a number.
-use borrow.Author.Rules.{rules}
-use Rattle.capi.proofs.armfile_gcm_decrypt.Goals as goal
-
-pub returns : goal.returns
-returns c = rw c.gcm_number.ensures c.decrypt.ensures

@@ -1,9 +1,0 @@
--- `hash::lines::put_count` meets its contract. A word, and behind it the kit's digits, the fewest that hold the number (`LineLaws`).
-use Rattle.std.proofs.Common.{rules, take}
-use Rattle.hash.proofs.LineLaws.{count-text}
-use Rattle.hash.proofs.lines.put_count.Goals as goal
-
-pub returns-clause-text : goal.returns-clause-text
-returns-clause-text c =
-    count-text (take c.args.at c.args.out.now) c.args.word.now c.args.n c.put-after.ensures.text c.put.ensures.text
-    c.decimal-k.ensures.digits (search rules) c.decimal-k.ensures.len
