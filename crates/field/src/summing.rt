@@ -56,7 +56,9 @@ fn run_singly(h: Block, start: Block, s: &[u8]) -> Block
     fold(h, start, 0, s, &[], q, Count::none()).value
 }
 
-// The same, sixteen blocks at a time as far as they go.
+// The same, sixteen blocks at a time as far as they go. It stays a function of its own: were it part of `run`, a short run too would take the stack
+// of its table.
+#[inline(never)]
 fn run_long(h: Block, start: Block, s: &[u8]) -> Block
     ensures { result ≡ Yᵢ h start s.now (Sums.blocks (length s.now)) }
 {
@@ -75,13 +77,9 @@ pub fn run(h: Block, start: Block, s: &[u8]) -> Block
     run_long(h, start, s)
 }
 
-// The sum S of s. It serves the layers above. The choice of `run` stands here once more because the compiler then leaves `run_long` a function of
-// its own: were it part of `run`, a short run too would take the stack of its table.
+// The sum S of s. It serves the layers above.
 pub fn sum(h: Block, s: &[u8]) -> Block
     ensures { result ≡ Sums.sum h s.now }
 {
-    if s.len() < BATCHED {
-        return run_singly(h, Block::ZERO, s);
-    }
-    run_long(h, Block::ZERO, s)
+    run(h, Block::ZERO, s)
 }

@@ -4,10 +4,6 @@ use Rattle.field.specs.Blocks.{zero_block, block}
 use Rattle.field.proofs.Horner.{horner}
 use Rattle.field.proofs.summing.sum.Goals as goal
 
-pub returns-then-s-lt-BATCHED : goal.returns-then-s-lt-BATCHED
-unfolding zero_block block
-returns-then-s-lt-BATCHED c = c.run_singly.ensures ∙ horner _ _
-
 pub returns : goal.returns
 unfolding zero_block block
-returns c = c.run_long.ensures ∙ horner _ _
+returns c = c.run.ensures ∙ horner _ _
