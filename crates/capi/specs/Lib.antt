@@ -1,4 +1,4 @@
--- The definitions; `Contracts` is what serves contracts alone.
+-- The definitions; `Clauses` is what serves contracts alone.
 pub mod Bytes
 pub mod Calls
 pub mod Leaves

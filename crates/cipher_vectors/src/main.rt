@@ -21,7 +21,8 @@ fn main(rt: HostRuntime) {
     let _ = println!(rt; "blocks {blocks}");
 }
 
-// Reads until the buffer is full, the input ends or a read fails, and answers how many bytes it put at the buffer's start.
+// Reads until the buffer is full, the input ends or a read fails, and answers how many bytes it put at the buffer's start. No `for`: how many reads it
+// takes, only they tell.
 fn read_full(rt: &HostRuntime, buf: &mut [u8]) -> usize
     ensures { result ≤ length buf.new }
 {

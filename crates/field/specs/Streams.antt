@@ -1,5 +1,5 @@
 -- GHASH of one byte list that comes in chunks: what a stream gives at the end, and what its laws ask of the chunks. What it holds
--- after a chunk is in `Contracts`. They stand in no standard; the laws that tie them to GHASH are in proofs/Stream.
+-- after a chunk is in `Clauses`. They stand in no standard; the laws that tie them to GHASH are in proofs/Stream.
 use Rattle.std.specs.Prelude.{◌≡◌, List, [], ◌∷◌, ℕ, ◌*◌, length}
 use Rattle.field.specs.declared.blocks.Block.{Block}
 use Rattle.field.specs.declared.streaming.Stream.{Stream}

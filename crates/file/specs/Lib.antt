@@ -1,4 +1,4 @@
--- The definitions, from the bottom up; `Contracts` is what serves contracts alone.
+-- The definitions, from the bottom up; `Clauses` is what serves contracts alone.
 pub mod Edits
 pub mod Table
 pub mod States

@@ -1,10 +1,10 @@
 // Standard input, read once at a time. Whether there may be more of it, and whether a read failed, this module alone can say.
-ghost use Rattle.std.specs.Prelude.{◌≡◌, ◌+◌, ◌≤◌, ◌<◌, ◌^◌, ltb, length, IfOk, MatchResult};
+ghost use Rattle.std.specs.Prelude.{◌≡◌, true, ◌+◌, ◌≤◌, ◌<◌, ◌^◌, ltb, length, IfOk, MatchResult};
 
 use std::io::Read;
 
-// Standard input after the reads so far: how many bytes they gave, and whether there may be more. With no more the input has ended: a read
-// that failed ends nothing.
+// Standard input after the reads so far: how many bytes they gave, and whether there may be more. With no more the input has ended: after a
+// read that failed there may be more.
 #[derive(Clone, Copy)]
 pub struct Input {
     n: u64,
@@ -38,10 +38,13 @@ impl Input {
         requires some { 0 < length buf.old }
         requires room { self.old.n + length buf.old < 2 ^ 64 }
         ensures within { IfOk result (λ n. n ≤ length buf.new) }
-        ensures going { MatchResult result (λ n. self.new.more ≡ ltb 0 n) (λ _. self.new.more ≡ self.old.more) }
+        ensures going { MatchResult result (λ n. self.new.more ≡ ltb 0 n) (λ _. self.new.more ≡ true) }
         ensures counted { MatchResult result (λ n. self.new.n ≡ self.old.n + n) (λ _. self.new.n ≡ self.old.n) }
     {
-        let n = rt.stdin().read(buf).map_err(|_| Failed { told: () })?;
+        let Ok(n) = rt.stdin().read(buf) else {
+            self.more = true;
+            return Err(Failed { told: () });
+        };
         self.n += n as u64;
         self.more = 0 < n;
         Ok(n)

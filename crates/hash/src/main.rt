@@ -71,6 +71,7 @@ fn hash_file(rt: &HostRuntime, mut input: Input, h: Block) -> Result<(), Failed>
 {
     let mut stream = Stream::new(h);
     let mut buf = io::large_buffer();
+    // A loop without an index: it ends with the input.
     loop {
         let n = fill(rt, &mut input, &mut buf)?;
         if stream.n > MAX_BYTES - n as u64 {

@@ -32,7 +32,7 @@ impl From<Cause> for u64 {
 impl From<file::Cause> for Cause {
     ghost from_gives = { λ given made. made ≡ File given };
 
-    fn from(cause: file::Cause) -> Cause {
-        Cause::File(cause)
+    fn from(given: file::Cause) -> Cause {
+        Cause::File(given)
     }
 }
