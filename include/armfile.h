@@ -88,18 +88,18 @@
  * start's is the same with fill 0 as with another. This is measured
  * (tests/stack), and is not part of what is proved:
  *
- *      armfile_encrypt      1144           armfile_drop_front     760
- *      armfile_multiply      168           armfile_cut_tail       616
- *      armfile_ghash       12904   408     armfile_replay        1000
+ *      armfile_encrypt      1144           armfile_drop_front     664
+ *      armfile_multiply      168           armfile_cut_tail       504
+ *      armfile_ghash       12904   408     armfile_replay         904
  *      armfile_join          472           armfile_forecast       232
- *      armfile_gmac        13528  1608     armfile_seal          1496
- *      armfile_gcm_encrypt 14168  4664     armfile_check         1432
- *      armfile_gcm_decrypt 14168  4664     armfile_length           8
+ *      armfile_gmac        13512  1592     armfile_seal          1560
+ *      armfile_gcm_encrypt 13464  4056     armfile_check         1416
+ *      armfile_gcm_decrypt 13464  4056     armfile_length           8
  *      armfile_start        1336           armfile_arm              8
  *      armfile_read        13048  1272     armfile_last             8
- *      armfile_change        776           armfile_sum              8
- *      armfile_append        632           armfile_hash_key         8
- *      armfile_prepend       616
+ *      armfile_change        680           armfile_sum              8
+ *      armfile_append        504           armfile_hash_key         8
+ *      armfile_prepend       504
  *
  * WHAT TO WIPE
  *

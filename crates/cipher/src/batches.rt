@@ -14,8 +14,7 @@ pub fn encrypt_blocks(rows: &[[u8; 16]], blocks: &mut [u8])
     // Parts by index: of those that chunks_exact_mut lends a proof does not know what they hold afterwards.
     let sixteens = blocks.len() / 256;
     for i in 0..sixteens {
-        let part = &mut blocks[256 * i..256 * i + 256];
-        part.copy_from_slice(&encrypt_sixteen(rows, part.as_array().unwrap()));
+        encrypt_sixteen(rows, &mut blocks[256 * i..256 * i + 256]);
     }
     for i in 16 * sixteens..blocks.len() / 16 {
         let part = &mut blocks[16 * i..16 * i + 16];

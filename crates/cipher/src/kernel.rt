@@ -38,26 +38,28 @@ impl States for [Planes; 4] {
     }
 }
 
-// The bytes of sixteen states.
-fn unpack(q: [Planes; 4]) -> [u8; 256]
-    ensures { result ≡ tab 256 (λ i. at (state_in q (i / 16)) (i % 16)) }
+// The bytes of sixteen states, written over what stood there.
+fn unpack(q: [Planes; 4], out: &mut [u8; 256])
+    ensures { out.new ≡ tab 256 (λ i. at (state_in q (i / 16)) (i % 16)) }
 {
     let a = words(q[0]);
     let b = words(q[1]);
     let c = words(q[2]);
     let d = words(q[3]);
-    let mut t = [0u8; 256];
     for i in 0..16 {
         let k = i % 8;
-        t[16 * i..16 * i + 16].copy_from_slice(&block_of([a[k], b[k], c[k], d[k]], i / 8));
+        out[16 * i..16 * i + 16].copy_from_slice(&block_of([a[k], b[k], c[k], d[k]], i / 8));
     }
-    t
 }
 
-// The ciphers of sixteen blocks, over the rows of a schedule.
-pub fn encrypt_sixteen(rows: &[[u8; 16]], blocks: &[u8; 256]) -> [u8; 256]
-    requires { 2 ≤ length rows.now }
-    ensures { result ≡ each_block rows.now blocks.now }
+// Replaces sixteen blocks by their ciphers, over the rows of a schedule. They are lent, since by value each call had two more copies of them on its
+// stack; and as a slice, since a proof knows nothing of a part of a slice that is lent as an array. The requires: a schedule has a row before the
+// rounds and one for the last, and the slice is sixteen blocks.
+pub fn encrypt_sixteen(rows: &[[u8; 16]], blocks: &mut [u8])
+    requires { (2 ≤ length rows.now) × (length blocks.old ≡ 256) }
+    ensures { blocks.new ≡ each_block rows.now blocks.old }
 {
-    unpack(ciphered(pack(blocks), rows))
+    if let Some(sixteen) = blocks.as_mut_array() {
+        unpack(ciphered(pack(sixteen), rows), sixteen);
+    }
 }

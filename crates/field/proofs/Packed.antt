@@ -2,16 +2,16 @@
 -- invariants of the loops that read and write a word, and a block read and written as two words. They rest on the laws of numbers as
 -- bytes (`Bytes`), of stores (`Stores`) and of blocks (`Values`, `BlockAt`).
 use mathlib.Core.Path.{◌≡◌, refl, sym, ap, ap₂, ◌∙◌}
-use mathlib.Core.List.{List, ◌++◌}
+use mathlib.Core.List.{List, ◌++◌, append_assoc}
 use Prim.Native.Nat.{ℕ, suc, ◌+◌, ◌-◌, ◌*◌, ◌/◌, ◌%◌, ◌^◌, ◌≤◌, ◌<◌}
-use native.Mathlib.Nat.{pow-le-pow_right, zero-lt-suc, mod-eq_of_lt, lt_of_lt_of_le}
+use native.Mathlib.Nat.{pow-le-pow_right, zero-lt-suc, mod-eq_of_lt, lt_of_lt_of_le, div-div-eq-div-mul}
 use native.Mathlib.Numerals.{add-one}
 use native.Mathlib.Omega.{arith}
 use mir.Syntax.{w8, w64}
 use mir.Val.{Fits}
 use lib.ListN.{length, get_or, set, take, drop, replicate, length-append, length-set, length-replicate}
-use lib.Seq.{get_or-take, get_or-drop, sets}
-use Rattle.std.specs.Int.{from_be_bytes}
+use lib.Seq.{get_or-take, get_or-drop, drop-drop, sets, sets-eq}
+use Rattle.std.specs.Int.{from_be_bytes, to_be_bytes}
 use Rattle.field.specs.declared.blocks.Block.{Block}
 use Rattle.field.specs.Bytes.{number, bytes}
 use Rattle.field.specs.Blocks.{Small, value, block, block_at, bytes_of}
@@ -136,6 +136,23 @@ pub block_at-outside : (lead : ℕ) (s : List ℕ) (i : ℕ) → lead ≤ 16 * i
 block_at-outside lead s i h l =
     let past : length (replicate lead 0 ++ s) ≤ 16 * i = rw (length-append, length-replicate) (omega arith) in
     zero-words ∙ sym (block_at-past (replicate lead 0 ++ s) i past)
+
+-- the library's eight bytes of a word
+pub word-bytes : (v : ℕ) → to_be_bytes w64 v ≡ bytes 8 v
+unfolding bytes
+word-bytes v =
+    let down : (n : ℕ) → v / (n * 256) ≡ v / n / 256 = λ n. sym (div-div-eq-div-mul v n 256) in
+    rw (down (2 ^ 48), down (2 ^ 40), down (2 ^ 32), down (2 ^ 24), down (2 ^ 16), down 256) refl
+
+-- u is what stands there once they are copied over the eight from a place on
+pub word-copied : (out : List ℕ) (at v k : ℕ) {w t u : List ℕ} → at + 8 ≤ length out → k ≡ 8 → w ≡ to_be_bytes w64 v → t ≡ w
+    → u ≡ take at out ++ (t ++ drop k (drop at out)) → u ≡ sets out at (bytes 8 v)
+word-copied out at v k {w} {t} {u} h e ew et eu =
+    let is : t ≡ bytes 8 v = et ∙ ew ∙ word-bytes v in
+    let rest : drop k (drop at out) ≡ drop (at + length (bytes 8 v)) out =
+    drop-drop k at out ∙ ap (λ (n : ℕ). drop n out) (omega (arith, length-bytes 8 v)) in
+    eu ∙ sym (append_assoc (take at out) t (drop k (drop at out))) ∙ ap₂ (λ (p q : List ℕ). take at out ++ p ++ q) is rest
+    ∙ sym (sets-eq (bytes 8 v) out at (omega (arith, length-bytes 8 v)))
 
 -- both words written one behind the other are the block's bytes written: mid is the output after the first, and last after the
 -- second

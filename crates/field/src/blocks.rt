@@ -74,8 +74,8 @@ impl Block {
         requires { at + 16 ≤ length out.old }
         ensures { out.new ≡ sets out.old at (bytes_of self) }
     {
-        store(out, at, 8, self.hi);
-        store(out, at + 8, 8, self.lo);
+        out[at..at + 8].copy_from_slice(&self.hi.to_be_bytes());
+        out[at + 8..at + 16].copy_from_slice(&self.lo.to_be_bytes());
     }
 
     // The sixteen bytes. It serves the layers above. A method, as the library's `to_be_bytes` of a word: the name tells what a `From` would leave open.

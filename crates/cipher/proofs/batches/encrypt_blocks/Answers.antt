@@ -12,12 +12,10 @@ loop-i-init c = replaced_start _ _ (length_each _ _)
 
 pub loop-i-preserved : goal.loop-i-preserved
 loop-i-preserved c =
-    let sixteen : c.unwrap.result.now ≡ take (256 * c.loop-i.i + 256 - 256 * c.loop-i.i) (drop (256 * c.loop-i.i) c.loop-i.blocks) = search rules in
-    part_next _ c.loop-i.invariant 256 _ (omega arith) (omega arith) refl (omega arith) _ (omega arith)
-    (c.copy_from_slice.ensures.after ∙ c.encrypt_sixteen.ensures ∙ rw sixteen refl)
+    part_next _ c.loop-i.invariant 256 _ (omega arith) (omega arith) refl (omega arith) _ (omega arith) c.encrypt_sixteen.ensures
 
 pub loop-i-2-preserved : goal.loop-i-2-preserved
 loop-i-2-preserved c =
-    let block : c.unwrap-in-loop-i-2.result.now ≡ take (16 * c.loop-i-2.i + 16 - 16 * c.loop-i-2.i) (drop (16 * c.loop-i-2.i) c.loop-i-2.blocks) = search rules in
+    let block : c.unwrap.result.now ≡ take (16 * c.loop-i-2.i + 16 - 16 * c.loop-i-2.i) (drop (16 * c.loop-i-2.i) c.loop-i-2.blocks) = search rules in
     block_next _ c.loop-i-2.invariant 16 _ (omega arith) (omega arith) refl (omega arith) _ refl (omega arith)
-    (c.copy_from_slice-in-loop-i-2.ensures.after ∙ c.cipher.ensures ∙ rw block refl)
+    (c.copy_from_slice.ensures.after ∙ c.cipher.ensures ∙ rw block refl)

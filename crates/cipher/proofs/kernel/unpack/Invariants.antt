@@ -5,4 +5,4 @@ use Rattle.cipher.proofs.SixteenStates.{blocks_in}
 use Rattle.cipher.proofs.kernel.unpack.Given as goal
 
 abbrev pub invariant-loop-i : goal.invariant-loop-i
-invariant-loop-i l = Replaced (blocks_in l.a l.b l.c l.d) l.initial.t (16 * l.i) l.t
+invariant-loop-i l = Replaced (blocks_in l.a l.b l.c l.d) l.initial.out (16 * l.i) l.out
