@@ -1,5 +1,4 @@
 // The bench cases of document 01 that are no theorems: each line names a case and prints the refusal's number, 0 where it was accepted.
-// What can't be written is lost, and the next line is tried all the same.
 #![tactic(auto)]
 
 use field::hashing::MAX_BYTES;
@@ -49,7 +48,10 @@ fn seals(rt: &impl Print) {
     print(rt, "seal after 2^64 - 1", st.seal(&mut slip));
 }
 
+// Prints a line by three calls. What can't be written is lost, and the next text is tried all the same.
 fn print<T: Drop>(rt: &impl Print, name: &str, answer: Result<T, Cause>) {
     let number = answer.map_or_else(u64::from, |_| 0);
-    let _ = println!(rt; "{name}: {number}");
+    let _ = rt.print(name);
+    let _ = rt.print(": ");
+    let _ = rt.println(number);
 }

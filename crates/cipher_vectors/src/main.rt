@@ -6,8 +6,8 @@
 
 ghost use Rattle.std.specs.Prelude.{◌<◌, ◌≤◌, length};
 
+use std::array;
 use std::io::Read;
-use std::{array, fmt};
 
 // Prints the comments as they stand, for each PLAINTEXT line the CIPHERTEXT line, and at the end the number of blocks.
 fn main(rt: HostRuntime) {
@@ -18,7 +18,8 @@ fn main(rt: HostRuntime) {
         return;
     }
     let blocks = run(&rt, &text[..n]);
-    let _ = println!(rt; "blocks {blocks}");
+    let _ = rt.print("blocks ");
+    let _ = rt.println(blocks);
 }
 
 // Reads until the buffer is full, the input ends or a read fails, and answers how many bytes it put at the buffer's start. No `for`: how many reads it
@@ -92,21 +93,17 @@ fn value(c: u8) -> u8
 // Encrypts one block and prints the result. No call is refused, since the arrays have 16 bytes: `refused` would be a fault.
 fn print_encrypted(rt: &impl Print, key: [u8; 16], block: [u8; 16]) {
     let mut out = [0u8; 16];
-    let _ = match cipher::encrypt(&key, &block, &mut out) {
-        Ok(()) => rt.print(Hex(&out)),
-        Err(_) => rt.print("refused"),
-    };
+    match cipher::encrypt(&key, &block, &mut out) {
+        Ok(()) => print_bytes(rt, &out),
+        Err(_) => {
+            let _ = rt.print("refused");
+        }
+    }
 }
 
-// Bytes, which are printed as hex digits in lower case.
-#[derive(Drop)]
-struct Hex<'a>(&'a [u8]);
-
-impl<'a> fmt::Display for Hex<'a> {
-    fn fmt<W: fmt::Write>(&self, f: &mut fmt::Formatter<W>) -> fmt::Result {
-        for x in self.0 {
-            write!(f, "{x:02x}")?;
-        }
-        Ok(())
+// Prints bytes as hex digits in lower case. Each goes by a call of its own: where one can't be written, the others are tried.
+fn print_bytes(rt: &impl Print, s: &[u8]) {
+    for x in s {
+        let _ = print!(rt; "{x:02x}");
     }
 }

@@ -10,7 +10,7 @@ mod shown;
 use field::multiplying::Count;
 use file::{Answered, Cause, SLIP_BYTES, State};
 use journal::{forecast, replay};
-use shown::{Held, Hex, Stop, words};
+use shown::{print_bytes, print_refusal, print_state, print_stop, words};
 use std::io;
 
 const ARM: u32 = 7;
@@ -84,48 +84,56 @@ fn print_step(
     outcome: Result<Count, Cause>,
     st: State,
 ) -> io::Result<()> {
+    rt.print(name)?;
     match outcome {
-        Ok(count) => println!(rt; "{name}: {}, count {}", Held(st), count.number()),
-        Err(cause) => print_refusal(rt, name, cause),
+        Ok(count) => print_state(rt, st, count.number())?,
+        Err(cause) => print_refusal(rt, cause)?,
     }
-}
-
-// Prints the number of a refusal.
-fn print_refusal(rt: &impl Print, name: &str, cause: Cause) -> io::Result<()> {
-    println!(rt; "{name}: refused {}", u64::from(cause))
+    rt.println("")
 }
 
 // Forecasts a journal for a file of n bytes.
 fn print_forecast(rt: &impl Print, name: &str, n: u64, journal: &[u8]) -> io::Result<()> {
     let f = forecast(n, journal);
-    let stop = Stop(f.answer, f.offset);
-    println!(rt;
-        "{name}: bound {}, greatest length {}, {stop}",
-        f.bound, f.greatest
-    )
+    rt.print(name)?;
+    rt.print(": bound ")?;
+    rt.print(f.bound)?;
+    rt.print(", greatest length ")?;
+    rt.print(f.greatest)?;
+    print_stop(rt, f.answer, f.offset)
 }
 
 // Replays a journal.
 fn print_replay(rt: &impl Print, name: &str, st: &mut State, journal: &[u8]) -> io::Result<()> {
     let r = replay(st, journal);
-    let stop = Stop(r.answer, r.offset);
-    println!(rt; "{name}: {}, count {}, {stop}", Held(*st), r.count)
+    rt.print(name)?;
+    print_state(rt, *st, r.count)?;
+    print_stop(rt, r.answer, r.offset)
 }
 
 // Seals the file, and prints the slip.
 fn print_seal(rt: &impl Print, name: &str, st: &mut State) -> io::Result<[u8; SLIP_BYTES]> {
     let mut slip = [0u8; SLIP_BYTES];
-    match st.seal(&mut slip) {
-        Ok(()) => println!(rt; "{name}: slip {}", Hex(&slip))?,
-        Err(cause) => print_refusal(rt, name, cause)?,
+    let answer = st.seal(&mut slip);
+    rt.print(name)?;
+    match answer {
+        Ok(()) => {
+            rt.print(": slip ")?;
+            print_bytes(rt, &slip)?;
+        }
+        Err(cause) => print_refusal(rt, cause)?,
     }
+    rt.println("")?;
     Ok(slip)
 }
 
 // Checks a slip, and prints the verdict.
 fn check(rt: &impl Print, name: &str, st: State, slip: &[u8; SLIP_BYTES]) -> io::Result<()> {
-    match st.check(slip) {
-        Ok(verdict) => println!(rt; "{name}: {}", words(verdict)),
-        Err(cause) => print_refusal(rt, name, cause),
+    let answer = st.check(slip);
+    rt.print(name)?;
+    match answer {
+        Ok(verdict) => rt.print(words(verdict))?,
+        Err(cause) => print_refusal(rt, cause)?,
     }
+    rt.println("")
 }

@@ -1,50 +1,56 @@
-// How what the steps answer is shown.
-use file::{State, Verdict};
-use std::fmt;
+// How what the steps answer is printed: text by text, each by a call of its own, so that where a write fails all that stands before it was written.
+use file::{Cause, State, Verdict};
+use std::io;
 
-// A state's length and sum.
-#[derive(Clone, Copy)]
-pub struct Held(pub State);
-
-impl fmt::Display for Held {
-    fn fmt<W: fmt::Write>(&self, f: &mut fmt::Formatter<W>) -> fmt::Result {
-        let st = self.0;
-        write!(f, "length {}, sum {:016x}{:016x}", st.n, st.s.hi, st.s.lo)
-    }
+// Prints a state's length and sum, and a count.
+pub fn print_state(rt: &impl Print, st: State, count: u64) -> io::Result<()> {
+    rt.print(": length ")?;
+    rt.print(st.n)?;
+    rt.print(", sum ")?;
+    print!(rt; "{:016x}", st.s.hi)?;
+    print!(rt; "{:016x}", st.s.lo)?;
+    rt.print(", count ")?;
+    rt.print(count)
 }
 
-// Where a replay stops, or a forecast.
-#[derive(Clone, Copy)]
-pub struct Stop(pub Result<(), journal::Cause>, pub u64);
-
-impl fmt::Display for Stop {
-    fn fmt<W: fmt::Write>(&self, f: &mut fmt::Formatter<W>) -> fmt::Result {
-        match self.0 {
-            Ok(()) => write!(f, "done at {}", self.1),
-            Err(cause) => write!(f, "refused {} at {}", u64::from(cause), self.1),
-        }
-    }
+// Prints the number of a refusal.
+pub fn print_refusal(rt: &impl Print, cause: Cause) -> io::Result<()> {
+    rt.print(": refused ")?;
+    rt.print(u64::from(cause))
 }
 
-// Bytes, as hexadecimal digits.
-#[derive(Clone, Copy)]
-pub struct Hex<'a>(pub &'a [u8]);
-
-impl<'a> fmt::Display for Hex<'a> {
-    fn fmt<W: fmt::Write>(&self, f: &mut fmt::Formatter<W>) -> fmt::Result {
-        for x in self.0 {
-            write!(f, "{x:02x}")?;
+// Prints where a replay stops, or a forecast, and ends the line.
+pub fn print_stop(
+    rt: &impl Print,
+    answer: Result<(), journal::Cause>,
+    offset: u64,
+) -> io::Result<()> {
+    match answer {
+        Ok(()) => rt.print(", done at ")?,
+        Err(cause) => {
+            rt.print(", refused ")?;
+            rt.print(u64::from(cause))?;
+            rt.print(" at ")?;
         }
-        Ok(())
     }
+    rt.print(offset)?;
+    rt.println("")
+}
+
+// Prints bytes as hexadecimal digits.
+pub fn print_bytes(rt: &impl Print, s: &[u8]) -> io::Result<()> {
+    for x in s {
+        print!(rt; "{x:02x}")?;
+    }
+    Ok(())
 }
 
 // A verdict in words.
 pub fn words(verdict: Verdict) -> &'static str {
     match verdict {
-        Verdict::NotGenuine => "not genuine",
-        Verdict::Current => "current",
-        Verdict::Stale => "stale",
-        Verdict::Ahead => "ahead",
+        Verdict::NotGenuine => ": not genuine",
+        Verdict::Current => ": current",
+        Verdict::Stale => ": stale",
+        Verdict::Ahead => ": ahead",
     }
 }
