@@ -51,7 +51,7 @@ fn seals(rt: &impl Print) {
 // Prints a line by three calls. What can't be written is lost, and the next text is tried all the same.
 fn print<T: Drop>(rt: &impl Print, name: &str, answer: Result<T, Cause>) {
     let number = answer.map_or_else(u64::from, |_| 0);
-    let _ = rt.print(name);
-    let _ = rt.print(": ");
+    let _ = rt.write_all(name.as_bytes());
+    let _ = rt.write_all(b": ");
     let _ = rt.println(number);
 }

@@ -14,11 +14,11 @@ fn main(rt: HostRuntime) {
     let mut text = [0u8; 65536];
     let n = read_full(&rt, &mut text);
     if n == text.len() {
-        let _ = println!(rt; "input too long");
+        let _ = rt.write_all(b"input too long\n");
         return;
     }
     let blocks = run(&rt, &text[..n]);
-    let _ = rt.print("blocks ");
+    let _ = rt.write_all(b"blocks ");
     let _ = rt.println(blocks);
 }
 
@@ -66,11 +66,11 @@ fn encrypt_line(rt: &impl Print, digits: &[u8], key: [u8; 16]) -> usize
     ensures { result ≤ length digits.now }
 {
     let (blocks, _) = digits.as_chunks();
-    let _ = print!(rt; "CIPHERTEXT = ");
+    let _ = rt.write_all(b"CIPHERTEXT = ");
     for block in blocks {
         print_encrypted(rt, key, block_of(block));
     }
-    let _ = println!(rt);
+    let _ = rt.write_all(b"\n");
     blocks.len()
 }
 
@@ -96,7 +96,7 @@ fn print_encrypted(rt: &impl Print, key: [u8; 16], block: [u8; 16]) {
     match cipher::encrypt(&key, &block, &mut out) {
         Ok(()) => print_bytes(rt, &out),
         Err(_) => {
-            let _ = rt.print("refused");
+            let _ = rt.write_all(b"refused");
         }
     }
 }

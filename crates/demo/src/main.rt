@@ -84,21 +84,21 @@ fn print_step(
     outcome: Result<Count, Cause>,
     st: State,
 ) -> io::Result<()> {
-    rt.print(name)?;
+    rt.write_all(name.as_bytes())?;
     match outcome {
         Ok(count) => print_state(rt, st, count.number())?,
         Err(cause) => print_refusal(rt, cause)?,
     }
-    rt.println("")
+    rt.write_all(b"\n")
 }
 
 // Forecasts a journal for a file of n bytes.
 fn print_forecast(rt: &impl Print, name: &str, n: u64, journal: &[u8]) -> io::Result<()> {
     let f = forecast(n, journal);
-    rt.print(name)?;
-    rt.print(": bound ")?;
+    rt.write_all(name.as_bytes())?;
+    rt.write_all(b": bound ")?;
     rt.print(f.bound)?;
-    rt.print(", greatest length ")?;
+    rt.write_all(b", greatest length ")?;
     rt.print(f.greatest)?;
     print_stop(rt, f.answer, f.offset)
 }
@@ -106,7 +106,7 @@ fn print_forecast(rt: &impl Print, name: &str, n: u64, journal: &[u8]) -> io::Re
 // Replays a journal.
 fn print_replay(rt: &impl Print, name: &str, st: &mut State, journal: &[u8]) -> io::Result<()> {
     let r = replay(st, journal);
-    rt.print(name)?;
+    rt.write_all(name.as_bytes())?;
     print_state(rt, *st, r.count)?;
     print_stop(rt, r.answer, r.offset)
 }
@@ -115,25 +115,25 @@ fn print_replay(rt: &impl Print, name: &str, st: &mut State, journal: &[u8]) -> 
 fn print_seal(rt: &impl Print, name: &str, st: &mut State) -> io::Result<[u8; SLIP_BYTES]> {
     let mut slip = [0u8; SLIP_BYTES];
     let answer = st.seal(&mut slip);
-    rt.print(name)?;
+    rt.write_all(name.as_bytes())?;
     match answer {
         Ok(()) => {
-            rt.print(": slip ")?;
+            rt.write_all(b": slip ")?;
             print_bytes(rt, &slip)?;
         }
         Err(cause) => print_refusal(rt, cause)?,
     }
-    rt.println("")?;
+    rt.write_all(b"\n")?;
     Ok(slip)
 }
 
 // Checks a slip, and prints the verdict.
 fn check(rt: &impl Print, name: &str, st: State, slip: &[u8; SLIP_BYTES]) -> io::Result<()> {
     let answer = st.check(slip);
-    rt.print(name)?;
+    rt.write_all(name.as_bytes())?;
     match answer {
-        Ok(verdict) => rt.print(words(verdict))?,
+        Ok(verdict) => rt.write_all(words(verdict))?,
         Err(cause) => print_refusal(rt, cause)?,
     }
-    rt.println("")
+    rt.write_all(b"\n")
 }

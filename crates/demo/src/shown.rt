@@ -4,18 +4,18 @@ use std::io;
 
 // Prints a state's length and sum, and a count.
 pub fn print_state(rt: &impl Print, st: State, count: u64) -> io::Result<()> {
-    rt.print(": length ")?;
+    rt.write_all(b": length ")?;
     rt.print(st.n)?;
-    rt.print(", sum ")?;
+    rt.write_all(b", sum ")?;
     print!(rt; "{:016x}", st.s.hi)?;
     print!(rt; "{:016x}", st.s.lo)?;
-    rt.print(", count ")?;
+    rt.write_all(b", count ")?;
     rt.print(count)
 }
 
 // Prints the number of a refusal.
 pub fn print_refusal(rt: &impl Print, cause: Cause) -> io::Result<()> {
-    rt.print(": refused ")?;
+    rt.write_all(b": refused ")?;
     rt.print(u64::from(cause))
 }
 
@@ -26,15 +26,15 @@ pub fn print_stop(
     offset: u64,
 ) -> io::Result<()> {
     match answer {
-        Ok(()) => rt.print(", done at ")?,
+        Ok(()) => rt.write_all(b", done at ")?,
         Err(cause) => {
-            rt.print(", refused ")?;
+            rt.write_all(b", refused ")?;
             rt.print(u64::from(cause))?;
-            rt.print(" at ")?;
+            rt.write_all(b" at ")?;
         }
     }
     rt.print(offset)?;
-    rt.println("")
+    rt.write_all(b"\n")
 }
 
 // Prints bytes as hexadecimal digits.
@@ -46,11 +46,11 @@ pub fn print_bytes(rt: &impl Print, s: &[u8]) -> io::Result<()> {
 }
 
 // A verdict in words.
-pub fn words(verdict: Verdict) -> &'static str {
+pub fn words(verdict: Verdict) -> &'static [u8] {
     match verdict {
-        Verdict::NotGenuine => ": not genuine",
-        Verdict::Current => ": current",
-        Verdict::Stale => ": stale",
-        Verdict::Ahead => ": ahead",
+        Verdict::NotGenuine => b": not genuine",
+        Verdict::Current => b": current",
+        Verdict::Stale => b": stale",
+        Verdict::Ahead => b": ahead",
     }
 }
